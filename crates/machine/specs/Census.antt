@@ -8,7 +8,7 @@ use lib.Dec.{eqb}
 use Rattle.machine.specs.Choice.{pick, all, refuse}
 use Rattle.machine.specs.Range.{recordOk, rowOk, valueOk, colourOk}
 use Rattle.machine.specs.Parts.{fieldOf, colourOf, withColour}
-use Rattle.machine.specs.Store.{Store, Outcome, outcome, fitting}
+use Rattle.machine.specs.Store.{Store, Outcome, outcome, fitsRecord}
 use Rattle.machine.specs.declared.Row.{Row}
 use Rattle.machine.specs.declared.Counts.{Counts}
 use Rattle.machine.specs.declared.Report.{Report}
@@ -84,7 +84,7 @@ counts st = record {
 unfoldable pub census : Store → Outcome Report
 census st =
     refuse (λ k. outcome (Refused k) st)
-    ((fitting st, 1)
+    ((fitsRecord st, 1)
     ∷ (recordOk (st .rec), 2)
     ∷ (all (rowOk (st .rec .n)) (st .desk), 2)
     ∷ (all (valueOk (st .rec .n)) (st .fields), 2)

@@ -1,10 +1,9 @@
 pub mod Choice
-pub mod Answer
 pub mod Limits
+pub mod Store
 pub mod Stage
 pub mod Range
 pub mod Parts
-pub mod Store
 pub mod Turns
 pub mod Slots
 pub mod Gray
@@ -15,6 +14,7 @@ pub mod Writer
 pub mod Collector
 pub mod Census
 pub mod CensusLaws
+pub mod Answer
 pub mod Machine
 pub mod Run
 pub mod Points

@@ -6,7 +6,7 @@ use lib.ListN.{getD, set}
 use lib.Dec.{ltb}
 use Rattle.machine.specs.Choice.{refuse}
 use Rattle.machine.specs.Stage.{posted}
-use Rattle.machine.specs.Store.{Store, Outcome, outcome, refusing, fitting, freshRow, start}
+use Rattle.machine.specs.Store.{Store, Outcome, outcome, refusing, fitsRecord, freshRow, start}
 use Rattle.machine.specs.Turns.{Written, Collected}
 use Rattle.machine.specs.Writer.{turnOf}
 use Rattle.machine.specs.Collector.{survey, collectorTurn}
@@ -28,7 +28,7 @@ putRow st w o =
 -- A writer's call: 1; 3 for the writer; then its row's turn, which begins with 3 for slot, field and page.
 unfoldable pub write : ℕ → Call → Store → Outcome Answer
 write w call st =
-    refuse (refusing st) ((fitting st, 1) ∷ (ltb w (st .rec .m), 3) ∷ [])
+    refuse (refusing st) ((fitsRecord st, 1) ∷ (ltb w (st .rec .m), 3) ∷ [])
     (putRow st w (turnOf (st .rec) (rowOf st w) (st .fields) (st .colours) call))
 
 -- the record goes back, with the colours after the collector's turn
@@ -40,7 +40,7 @@ putRecord st o =
 -- The collector's call: 1; then its turn.
 unfoldable pub collect : Store → Outcome Answer
 collect st =
-    refuse (refusing st) ((fitting st, 1) ∷ [])
+    refuse (refusing st) ((fitsRecord st, 1) ∷ [])
     (putRecord st (collectorTurn (st .rec) (survey (posted (st .rec .stage)) (st .desk)) (st .fields) (st .colours)))
 
 -- "One call is one turn, of one writer or of the collector."

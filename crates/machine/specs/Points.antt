@@ -173,6 +173,32 @@ lent-start n g m st l = go (limitsOk n g m)
 pub all-points : AllMet (marked ++ shortcuts)
 unfolding all every refuse limitsOk lengthsOk sizesOk posted tracing hand placeOk partOk valueOk holdOk foundOk recordOk statusOk colourOk storedOk madeOk workOk jobOk rowOk withStatus withSlot withJob fits fresh start soundOk page copy drop readCell read grayed grayOk answerTo answer nextAnswering planOf storeCell storeSlots store storeRead storeGray storeWrite nextStoring lowestFree emptied takeCell take create decided look nextCreating nextWork nextJob next turnOf hasStatus survey opening waiting marking endPass scanPlace scanHold scanGray scanClose scanning swept sweeping byStage collectorTurn write collect turn run answers workingTurns
 all-points =
-    lent-start 4096 16 8 also lent-start 0 1 1 also lent-start 4097 1 1
-    also refl also refl also refl also refl also refl also refl also refl also refl also refl also refl also refl also refl also refl also refl also refl also refl also refl also refl also refl
+    -- starts
+    lent-start 4096 16 8
+    also lent-start 0 1 1
+    also lent-start 4097 1 1
+    -- cycles: 20 turns, which is C; 23; dropped after the third answer, white at the closing; free after the next
+    also refl
+    also refl
+    also refl
+    also refl
+    also refl
+    -- stores: 5 turns, 4, 2
+    also refl
+    also refl
+    also refl
+    -- answers: refused 5; ten turns
+    also refl
+    also refl
+    -- field 4 asked by a busy writer; drop of an empty slot
+    also refl
+    also refl
+    -- shortcuts: one handshake; the hand at the opening; white while tracing; only the new value; neither; a busy writer, twice
+    also refl
+    also refl
+    also refl
+    also refl
+    also refl
+    also refl
+    also refl
     also end

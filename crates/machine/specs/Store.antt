@@ -34,8 +34,8 @@ unfoldable pub fits : ℕ → ℕ → ℕ → Store → Bool
 fits n g m st = sizesOk n g m (length (st .desk)) (length (st .fields)) (length (st .colours))
 
 -- the parts fit the record's own N, g and M
-abbrev pub fitting : Store → Bool
-fitting st = fits (st .rec .n) (st .rec .g) (st .rec .m) st
+abbrev pub fitsRecord : Store → Bool
+fitsRecord st = fits (st .rec .n) (st .rec .g) (st .rec .m) st
 
 -- "rows idle with status 0 and empty slots"
 abbrev pub freshRow : Row
