@@ -1,11 +1,11 @@
--- What the computed census says: a cell in use is held exactly if it is not left over.
+-- What the computed census says: a cell in use is held if it is not left over, and floats if it is.
 use Prim.Native.Nat.{ℕ, zero, suc, _+_, _*_, _<_, _≤_}
 use mathlib.Core.Path.{_≡_, refl, sym, _∙_, ap}
 use mathlib.Core.Logic.{_≢_, _↔_, _⊎_, inl, inr}
 use mathlib.Core.List.{List, [], _∷_, _++_}
 use native.Mathlib.Omega.{arith}
 use native.Mathlib.Decide.{ℕ-discrete}
-use lib.ListN.{length, getD, set}
+use lib.ListN.{length}
 use lib.Seq.{getD-set-other}
 use borrow.Author.Tests.{eq-eqb, ne-eqb}
 use Rattle.machine.specs.Parts.{fieldOf, colourOf, withColour}
@@ -174,21 +174,23 @@ module _ (st : Store) where
   unfolding unreached
   all-whole = whole (length (roots st) + 4 * inUse (st .colours)) (roots st) (st .colours) (omega arith) (λ x f u e h. absurd (u e))
 
+  in-use : {x : ℕ} → Held st x → InUse st x
+  in-use (root i u) = u
+  in-use (field x f h b e u) = u
+
   held-out : (c : ℕ) → Held st c → colourOf (unreached st) c ≡ 0
   held-out c (root i u) = all-whole .followed c i
   held-out c (field x f h b e u) = go (all-whole .spread x f (in-use h) (held-out x h) b)
     where
-      in-use : {x : ℕ} → Held st x → InUse st x
-      in-use (root i u) = u
-      in-use (field x f h b e u) = u
-
       go : (colourOf (unreached st) (fieldOf (st .fields) x f) ≡ 0) ⊎ ⊥ → colourOf (unreached st) c ≡ 0
       go (inl z) = rw e z
       go (inr z) = absurd z
 
-  pub held-exact : (c : ℕ) → InUse st c → Held st c ↔ (colourOf (unreached st) c ≡ 0)
+  pub held-exact : (c : ℕ) → Held st c ↔ (InUse st c × (colourOf (unreached st) c ≡ 0))
   unfolding unreached
-  held-exact c u = (held-out c, sound (length (roots st) + 4 * inUse (st .colours)) (roots st) (st .colours) (record { there = λ c n. n; taken = λ c n e. absurd (n e); ahead = λ c i n. root i n }) c u)
+  held-exact c =
+      (λ h. (in-use h, held-out c h), λ e. sound (length (roots st) + 4 * inUse (st .colours)) (roots st) (st .colours) (record { there = λ x n. n; taken = λ x n z. absurd (n z); ahead = λ x i n. root i n }) c (e .0) (e .1))
 
-  pub floating-exact : (c : ℕ) → InUse st c → Floating st c ↔ (colourOf (unreached st) c ≢ 0)
-  floating-exact c u = (λ f z. f .1 (held-exact c u .1 z), λ n. (u, λ h. n (held-exact c u .0 h)))
+  pub floating-exact : (c : ℕ) → Floating st c ↔ (colourOf (unreached st) c ≢ 0)
+  floating-exact c =
+      (λ f z. f .1 (held-exact c .1 (f .0, z)), λ n. (λ z. n (all-whole .keeps c z), λ h. n (held-out c h)))

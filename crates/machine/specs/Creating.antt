@@ -33,7 +33,7 @@ lowestFree i (b ∷ bs) = pick (eqb b 0) (Free i) (pick (colourOk b) (lowestFree
 unfoldable pub emptied : List ℕ → ℕ → List ℕ
 emptied fields n = withField (withField (withField (withField fields n 0 none) n 1 none) n 2 none) n 3 none
 
--- "Take: the lowest-numbered free cell n becomes black, its fields none. .. Until the look the job says keep."
+-- "Take: the lowest-numbered free cell n becomes black, its fields none. .. Until the look the job says keep": the look is ahead
 unfoldable pub takeCell : Row → List ℕ → List ℕ → ℕ → ℕ → Written
 takeCell row fields colours s n =
     written (more (creating row s n Ahead)) (emptied fields n) (withColour colours n 3)

@@ -1,10 +1,12 @@
 pub mod Choice
+pub mod ChoiceLaws
 pub mod Limits
 pub mod Store
 pub mod Stage
 pub mod Range
 pub mod Parts
 pub mod Turns
+pub mod RangeLaws
 pub mod Slots
 pub mod Gray
 pub mod Answering
@@ -15,6 +17,7 @@ pub mod Collector
 pub mod Census
 pub mod CensusLaws
 pub mod Answer
+pub mod AnswerLaws
 pub mod Machine
 pub mod Run
 pub mod Points

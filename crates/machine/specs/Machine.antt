@@ -11,6 +11,8 @@ use Rattle.machine.specs.Turns.{Written, Collected}
 use Rattle.machine.specs.Writer.{turnOf}
 use Rattle.machine.specs.Collector.{survey, collectorTurn}
 use Rattle.machine.specs.Census.{census}
+use Rattle.machine.specs.Answer.{Said, saidBy, saidByCensus}
+use Rattle.machine.specs.AnswerLaws.{answer-said, report-said}
 use Rattle.machine.specs.declared.Row.{Row}
 use Rattle.machine.specs.declared.Call.{Call}
 use Rattle.machine.specs.declared.Answer.{Answer}
@@ -43,7 +45,7 @@ collect st =
     refuse (refusing st) ((fitsRecord st, 1) ∷ [])
     (putRecord st (collectorTurn (st .rec) (survey (posted (st .rec .stage)) (st .desk)) (st .fields) (st .colours)))
 
--- "One call is one turn, of one writer or of the collector."
+-- One call is one turn, of one writer or of the collector.
 pub data Turn : Type 0 where
   writer : ℕ → Call → Turn
   collector : Turn
@@ -52,26 +54,37 @@ unfoldable pub turn : Turn → Store → Outcome Answer
 turn (writer w call) st = write w call st
 turn collector st = collect st
 
--- the public calls, and what each answers
+-- the public calls, the enum that each answers with, and what that says
 pub data Public : Type 0 where
   starting : ℕ → ℕ → ℕ → Public
   turning : Turn → Public
   counting : Public
 
-abbrev pub Answered : Public → Type 0
-Answered (starting n g m) = Answer
-Answered (turning t) = Answer
-Answered counting = Report
+abbrev pub Answers : Public → Type 0
+Answers (starting n g m) = Answer
+Answers (turning t) = Answer
+Answers counting = Report
 
-unfoldable pub outcomeOf : (p : Public) → Store → Outcome (Answered p)
+abbrev pub saidIn : (p : Public) → Answers p → Said
+saidIn (starting n g m) = saidBy
+saidIn (turning t) = saidBy
+saidIn counting = saidByCensus
+
+unfoldable pub outcomeOf : (p : Public) → Store → Outcome (Answers p)
 outcomeOf (starting n g m) st = start n g m st
 outcomeOf (turning t) st = turn t st
 outcomeOf counting st = census st
 
--- the one shape of a public contract: answer, record, desk, fields and colours together are the machine's
-abbrev pub Meets : (p : Public) → Store → Outcome (Answered p) → Type 0
-Meets p st o = o ≡ outcomeOf p st
+-- The one shape of a public contract: what the answer says, and record, desk, fields and colours after the call, are the machine's.
+pub record Meets (p : Public) (st : Store) (answer : Answers p) (after : Store) : Type 0 where
+  pub says : saidIn p answer ≡ saidIn p (outcomeOf p st .answer)
+  pub leaves : after ≡ outcomeOf p st .store
 
 -- "prove that two outcomes allowed by it coincide"
-pub determined : (p : Public) (st : Store) (o o′ : Outcome (Answered p)) → Meets p st o → Meets p st o′ → o ≡ o′
-determined p st o o′ a b = a ∙ sym b
+said-once : (p : Public) (a b : Answers p) → saidIn p a ≡ saidIn p b → a ≡ b
+said-once (starting n g m) = answer-said
+said-once (turning t) = answer-said
+said-once counting = report-said
+
+pub determined : (p : Public) (st : Store) (a b : Answers p) (after after′ : Store) → Meets p st a after → Meets p st b after′ → (a ≡ b) × (after ≡ after′)
+determined p st a b after after′ m n = (said-once p a b (m .says ∙ sym (n .says)), m .leaves ∙ sym (n .leaves))

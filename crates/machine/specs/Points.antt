@@ -1,6 +1,6 @@
--- "Points on both sides": every point marked ◆, and one run for each of the "Shortcuts that lose a keyframe", as one list under one
--- statement about the machine's definition. The machine is computed; only the length of a lent part is a premise.
-use Prim.Native.Nat.{ℕ, _+_, _*_}
+-- "Points on both sides": every point marked ◆, and runs that the "Shortcuts that lose a keyframe" would change, as one list under one
+-- statement about the machine's definition. The machine is computed; only the lengths of lent parts are premises.
+use Prim.Native.Nat.{ℕ, _*_}
 use mathlib.Core.Path.{_≡_, refl}
 use mathlib.Core.List.{List, [], _∷_, _++_}
 use mathlib.Core.Bool.{Bool, true, false}

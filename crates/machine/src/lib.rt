@@ -34,7 +34,7 @@ pub enum Plan {
     BareWrite,
 }
 
-// What a creation's look has decided; until then it is ahead.
+// What a creation's look has decided. While it is ahead the job says keep.
 pub enum Look {
     Ahead,
     Keep,
