@@ -1,0 +1,4 @@
+pub mod Choosing
+pub mod Testing
+pub mod Refusing
+pub mod Looping

@@ -1,0 +1,3 @@
+pub mod Arms
+pub mod Facts
+pub mod Frees
