@@ -17,6 +17,9 @@ pub record Store : Type 0 where
   pub fields : List ℕ
   pub colours : List ℕ
 
+abbrev pub parts : Record → List Row → List ℕ → List ℕ → Store
+parts rec desk fields colours = record { rec = rec; desk = desk; fields = fields; colours = colours }
+
 -- a call's outcome: its answer, and the lent parts after it
 pub record Outcome (A : Type 0) : Type 0 where
   pub answer : A
