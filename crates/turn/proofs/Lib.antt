@@ -1,7 +1,14 @@
+pub mod Beginning
+pub mod Callees
+pub mod Calling
 pub mod Data
+pub mod Ending
 pub mod Filling
 pub mod Laws
 pub mod Local
+pub mod Parts
+pub mod Seeing
 pub mod Shared
 pub mod Sizes
 pub mod Types
+pub mod Walking

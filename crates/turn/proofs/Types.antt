@@ -1,4 +1,5 @@
--- The types that the walks meet, as `Data.antt` has them. Assumes nothing.
+-- The types that the walks meet, as `Data.antt` has them, and the two that lie behind references: R is a row's and Q the record's. Assumes nothing.
+use denote.RattleType.{RattleType}
 use denote.Array.{Array}
 use Rattle.turn.proofs.Data.{Data, of-struct, of-enum, of-array}
 use Rattle.machine.proofs.Row as Row
@@ -20,10 +21,16 @@ use Rattle.turn.proofs.Started.Laws as Started′
 use Rattle.turn.proofs.kept.Kept as Kept
 use Rattle.turn.proofs.kept.Kept.Laws as Kept′
 
-abbrev pub row : Data Row.the-row
+abbrev pub R : RattleType
+R = Row.the-row
+
+abbrev pub Q : RattleType
+Q = Record.the-row
+
+abbrev pub row : Data R
 row = of-struct Row.the-type Row′.the-laws Row′.the-copy Row′.the-plain
 
-abbrev pub rec : Data Record.the-row
+abbrev pub rec : Data Q
 rec = of-struct Record.the-type Record′.the-laws Record′.the-copy Record′.the-plain
 
 abbrev pub call : Data Call.the-row
@@ -44,7 +51,7 @@ collector-turn = of-struct CollectorTurn.the-type CollectorTurn′.the-laws Coll
 abbrev pub started : Data Started.the-row
 started = of-struct Started.the-type Started′.the-laws Started′.the-copy Started′.the-plain
 
-abbrev pub rows : Data (Array Row.the-row 8)
+abbrev pub rows : Data (Array R 8)
 rows = of-array row 8
 
 abbrev pub kept : Data Kept.the-row

@@ -1,6 +1,6 @@
 use borrow.Author.Needs.{needs}
 use Rattle.turn.proofs.Sizes.{sizes}
-use Rattle.turn.proofs.Laws.{begins}
+use Rattle.turn.proofs.Beginning.{begins}
 use Rattle.cells.proofs.Refusing.{refusals}
 use Rattle.turn.specs.Lent.{beginning}
 use Rattle.turn.proofs.core.start_core.Statement.{statement}

@@ -1,8 +1,7 @@
 -- `turn::desk::put_row` meets its contract: a walk of its MIR, by hand, with a branch. In one arm the borrow is opened, one element is stored to, and the borrow is closed at the list with the row in it; in the other nothing happens, and the list is the one that `set` gives past its end.
 -- Assumes nothing.
 use mathlib.Core.Path.{_≡_, refl, sym, ap, subst}
-use Prim.Native.Nat.{ℕ, _<_, _^_, _*_}
-use native.Mathlib.Omega.{arith}
+use Prim.Native.Nat.{ℕ, _<_, _^_}
 use mathlib.Core.List.{[], _∷_, List}
 use lib.ListN.{length, set, length-set}
 use lib.Seq.{set-out}
@@ -15,15 +14,14 @@ use base.Logic.{SProp, ent, sep, emp, via, fst∗}
 use base.Fml.{Lft, Share, GName, ftrue, flft, fat}
 use prog.Memory.{Memory}
 use prog.Routine.{Routine}
-use prog.Wp.{Heap, Calls, Loops, WpFn, Tables}
+use prog.Wp.{Heap, Calls, Loops, WpFn}
 use ghost.Atoms.{Atoms, sem}
 use contract.Monad.{Fun}
-use contract.Running.{givenOf, tables, tablesOf}
+use contract.Running.{givenOf, tables}
 use types.Kit.{Given, ‵, _⊛_, atRet, _$_, _∵_, !, qed, by, move, keep, drop, split, join, rewrite, fsplit, fjoin, feqI, suffices, frame, done}
 use types.Run.{look, store-raw, init, forget, stop, hop, fld, from, load, lit, bin, unit-lit, of-opd, assigns, assigns-last, first, branches, skips, exec, returns, enter, alloc1, alloc0, params1, pass1, pass0, free1, free0}
 use types.Part.{whole, sub, look-in}
-use sound.WpLaws.{WpFn-mono}
-use denote.RattleType.{RattleType, owns}
+use denote.RattleType.{owns}
 use denote.Memory.{mem}
 use denote.Laws.{Is, shows}
 use denote.Plain.{uint-vals, uint-tells}
@@ -35,29 +33,21 @@ use denote.Index.{place-is, elem-out, elem-put, opens-slice, closes-slice}
 use denote.Signature.{plain}
 use denote.Steps.{owned, nothing}
 use denote.Triple.Entry.{onEntry}
-use denote.Triple.Spec.{Meets, tripleOf}
-use denote.Triple.Table.{entered}
-use denote.Triple.Walked.{says, Stays, stay-dropped, stay-slice, walkOf, goes-dropped, goes-slice, Walks, ends-at, walked, walk-meets}
+use denote.Triple.Walked.{says, Stays, stay-dropped, stay-slice, walkOf, AllGo, goes-dropped, goes-slice, Walks, ends-at, walked}
 use denote.Exit.{yes}
 use Rattle.machine.specs.declared.Row.{Row}
 use Rattle.turn.proofs.Data.{envAt}
-use Rattle.turn.proofs.Types.{row as D}
-use Rattle.machine.proofs.Row as Row′
-use Rattle.turn.proofs.desk.put_row.Key.{name as #turn·desk·put-row}
+use Rattle.turn.proofs.Ending.{walk-proves}
+use Rattle.turn.proofs.Types.{R, row as D}
+use Rattle.turn.proofs.Walking.{fits-at}
+use Rattle.turn.proofs.desk.put_row.Key.{name as #put-row}
 use Rattle.turn.proofs.desk.put_row as f
 use Rattle.turn.proofs.desk.put_row.Statement as stated
 use Rattle.turn.proofs.desk.put_row.Code as code
 use Rattle.turn.proofs.desk.put_row.Code.Mir as body
 
-abbrev R : RattleType
-R = Row′.the-row
-
 abbrev stayed : Stays (f.ended .signature .params) (f.ended .kept)
 stayed = (stay-slice (0 ∷ []) tt (plain (λ _. R)), (stay-dropped (plain (λ _. usize)) yes, (stay-dropped (plain (λ _. R)) yes, tt)))
-
--- the place of an element, in bytes, fits a usize
-fits-at : (i n : ℕ) → i < n → n * 32 < 2 ^ 63 → i * 32 < 2 ^ 64
-fits-at i n l r = omega arith
 
 module _ {M : Type 1} (𝓤 : URA M) (H : Heap 𝓤) (A : Atoms 𝓤) (W : Given 𝓤 H A) (at-mem : Memory → SProp 𝓤) (run : Routine → Fun 𝓤) (κ : Lft) (q : Share) (b o : ℕ) (γ : GName) (ys : List Row) (i : ℕ) (d : Row) (i-fits : i < 2 ^ 64) (d-is : Is R d (D .val d ∷ [])) where
   -- the borrow at the list l
@@ -132,15 +122,12 @@ module _ {M : Type 1} (𝓤 : URA M) (H : Heap 𝓤) (A : Atoms 𝓤) (W : Given
       (λ κs qs bounds a g are. via 𝓤 _ (fst∗ 𝓤 _ (emp 𝓤))
       (walk 𝓤 H A W at-mem run (κs .0) (qs .0) (a .0 .ptr .0) (a .0 .ptr .1) (a .0 .name) (a .0 .now) (a .1 .0) (a .1 .1 .0) (are .1 .0 .1) (are .1 .1 .0) C Λ (are .0 .0 .1)))
 
-put-row-meets : {M : Type 1} (𝓤 : URA M) (H : Heap 𝓤) (A : Atoms 𝓤) → Given 𝓤 H A → (at-mem : Memory → SProp 𝓤) (run : Routine → Fun 𝓤) (𝓣 : Tables 𝓤 H)
-    → Meets 𝓤 H A f.signature (WpFn 𝓤 H (𝓣 .C) (𝓣 .Λ) code.function) (f.spec 𝓤 H A at-mem run)
-put-row-meets 𝓤 H A W at-mem run 𝓣 =
-    walk-meets 𝓤 H A f.ended stayed W (goes-slice 𝓤 H A W 1 0 tt (plain (λ _. R)), (goes-dropped 𝓤 H A W 1 (plain (λ _. usize)) yes (λ κs x f. refl), (goes-dropped 𝓤 H A W 1 (plain (λ _. R)) yes (λ κs x f. refl), tt))) (f.clauses 𝓤 H A at-mem run)
-    (WpFn 𝓤 H (𝓣 .C) (𝓣 .Λ) code.function) (WpFn-mono 𝓤 H (W .laws) 𝓣 code.function) (put-row-walks 𝓤 H A W at-mem run (𝓣 .C) (𝓣 .Λ))
+  goes : AllGo 𝓤 H A W 1 (f.signature .params) (f.ended .kept) stayed
+  goes = (goes-slice 𝓤 H A W 1 0 tt (plain (λ _. R)), (goes-dropped 𝓤 H A W 1 (plain (λ _. usize)) yes (λ κs x f. refl), (goes-dropped 𝓤 H A W 1 (plain (λ _. R)) yes (λ κs x f. refl), tt)))
 
 pub put-row-spec : {M : Type 1} → stated.statement M
-unfolding code.routine tablesOf
+unfolding code.routine
 put-row-spec 𝓤 H 𝓜 𝓖 𝓡 =
-    entered 𝓤 H (tripleOf 𝓤 H (𝓖 .A) f.signature (f.spec 𝓤 H (𝓖 .A) (𝓜 .mem) (𝓡 .run)))
-    (tables 𝓤 H 𝓜 𝓡 code.env .C) (tables 𝓤 H 𝓜 𝓡 code.env .Λ) #turn·desk·put-row code.function (code.unfolded 𝓤 H 𝓜 𝓡)
-    (put-row-meets 𝓤 H (𝓖 .A) (givenOf 𝓤 H 𝓜 𝓖) (𝓜 .mem) (𝓡 .run) (tablesOf 𝓤 H 𝓜 (tables 𝓤 H 𝓜 𝓡 code.env)))
+    let W : Given 𝓤 H (𝓖 .A) = givenOf 𝓤 H 𝓜 𝓖 in
+    walk-proves 𝓤 H 𝓜 𝓖 𝓡 code.env f.ended stayed (goes 𝓤 H (𝓖 .A) W (𝓜 .mem) (𝓡 .run)) (f.clauses 𝓤 H (𝓖 .A) (𝓜 .mem) (𝓡 .run)) #put-row code.function (code.unfolded 𝓤 H 𝓜 𝓡)
+    (put-row-walks 𝓤 H (𝓖 .A) W (𝓜 .mem) (𝓡 .run) (tables 𝓤 H 𝓜 𝓡 code.env .C) (tables 𝓤 H 𝓜 𝓡 code.env .Λ))

@@ -1,5 +1,5 @@
 use borrow.Author.Needs.{needs}
-use Rattle.turn.proofs.Laws.{sees-of}
+use Rattle.turn.proofs.Seeing.{sees-of}
 use Rattle.turn.proofs.desk.sees.Statement.{statement}
 use Rattle.turn.proofs.desk.sees.Tie as tie
 
