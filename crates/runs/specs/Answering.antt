@@ -9,6 +9,7 @@ use borrow.Author.Tests.{eqb-false, lt-ltb, le-ltb, eq-eqb, ne-eqb, not-true}
 use Rattle.moves.specs.Machine as Abstract
 use Rattle.moves.specs.Writing as Writing
 use Rattle.moves.specs.Moves.{by-writer}
+use Rattle.machine.specs.ChoiceLaws.{refuse-cases}
 use Rattle.machine.specs.Choice.{pick}
 use Rattle.machine.specs.Stage.{posted}
 use Rattle.machine.specs.Store.{Store}
@@ -20,7 +21,6 @@ use Rattle.machine.specs.Machine.{rowOf}
 use Rattle.machine.specs.declared.Row.{Row}
 use Rattle.machine.specs.declared.Job.the-variants.{Idle, Busy}
 use Rattle.machine.specs.declared.Work.the-variants.{Answering}
-use Rattle.runs.specs.Refused.{refuse-cases}
 use Rattle.runs.specs.Abs.{stageAt, stageIn, absJob, absRow, abs, abs-grayed, eight-put}
 use Rattle.runs.specs.Frame.{Wrote, Quiet, put-same, idle-is, At, put-row, put-job, job-eight, slot-at}
 

@@ -13,7 +13,7 @@ use Rattle.moves.specs.Machine as Abstract
 use Rattle.moves.specs.Collecting as Collecting
 use Rattle.moves.specs.Moves.{by-collector}
 use Rattle.machine.specs.Choice.{pick, all, refuse}
-use Rattle.machine.specs.ChoiceLaws.{hold, all-at}
+use Rattle.machine.specs.ChoiceLaws.{hold, all-at, Passed, refuse-cases}
 use Rattle.machine.specs.Limits.{none}
 use Rattle.machine.specs.Stage.{posted}
 use Rattle.machine.specs.Store.{Store, freshRow}
@@ -25,7 +25,6 @@ use Rattle.machine.specs.Collector.{scanHold, scanGray, scanClose, scanning, sw
 use Rattle.machine.specs.Machine.{putRecord, collect}
 use Rattle.machine.specs.declared.Record.{Record}
 use Rattle.machine.specs.declared.Row.{Row}
-use Rattle.runs.specs.Refused.{Passed, refuse-cases}
 use Rattle.runs.specs.Abs.{absRow, absFields, any-default, getD-upd, abs-grayed, field-in, fit, Eight, Steps}
 
 -- what the sweep makes of a colour

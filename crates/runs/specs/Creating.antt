@@ -14,6 +14,7 @@ use Rattle.moves.specs.Base.{upd, upd-case}
 use Rattle.moves.specs.Machine as Abstract
 use Rattle.moves.specs.Writing as Writing
 use Rattle.moves.specs.Moves.{by-writer}
+use Rattle.machine.specs.ChoiceLaws.{refuse-cases}
 use Rattle.machine.specs.Choice.{pick, differ}
 use Rattle.machine.specs.Limits.{none}
 use Rattle.machine.specs.Stage.{tracing, hand}
@@ -30,7 +31,6 @@ use Rattle.machine.specs.declared.Room.{Room}
 use Rattle.machine.specs.declared.Room.the-variants.{Free, Full, Bad}
 use Rattle.machine.specs.declared.Job.the-variants.{Idle, Busy}
 use Rattle.machine.specs.declared.Work.the-variants.{Creating}
-use Rattle.runs.specs.Refused.{refuse-cases}
 use Rattle.runs.specs.Abs.{stageAt, stageIn, absLook, absJob, absFields, abs, getD-upd, abs-rows, eight-put}
 use Rattle.runs.specs.Frame.{Wrote, put-same, idle-is, At, in-desk, put-row, put-job, job-eight, slot-set, slot-eight}
 

@@ -1,5 +1,5 @@
 -- A store in range, and the laws of the changes that leave it so.
-use Prim.Native.Nat.{ℕ, suc, _≤_, _<_}
+use Prim.Native.Nat.{ℕ, _≤_, _<_}
 use mathlib.Core.Path.{_≡_, refl, _∙_, ap, subst}
 use mathlib.Core.Bool.{Bool, true, false}
 use mathlib.Core.Logic.{_≢_}
@@ -9,8 +9,8 @@ use native.Mathlib.Decide.{decLt}
 use lib.Dec.{ltb, leb, eqb}
 use lib.ListN.{length, getD, set, length-set}
 use borrow.Author.Tests.{lt-ltb, le-ltb}
-use Rattle.machine.specs.Choice.{pick, all, every}
-use Rattle.machine.specs.ChoiceLaws.{Hold}
+use Rattle.machine.specs.Choice.{pick}
+use Rattle.machine.specs.ChoiceLaws.{Hold, held}
 use Rattle.machine.specs.Limits.{none}
 use Rattle.machine.specs.Store.{Store, Outcome, fitsRecord}
 use Rattle.machine.specs.Range.{placeOk, partOk, valueOk, holdOk, foundOk, recordOk, colourOk, rowOk}
@@ -59,20 +59,7 @@ pub record Fine (o : Outcome Answer) : Type 0 where
   pub mild : Mild (o .answer)
   pub after : InRange (o .store)
 
--- ---- lists of tests
--- the list of tests holds
-pub held : (ts : List Bool) → Hold ts → every ts ≡ true
-unfolding every
-held [] h = refl
-held (t ∷ []) h = h .0
-held (t ∷ u ∷ ts) h = rw (h .0) (held (u ∷ ts) (h .1))
-
--- a test that each element passes
-pub all-from : {A : Type 0} (t : A → Bool) (d : A) (l : List A) → ((i : ℕ) → t (getD l i d) ≡ true) → all t l ≡ true
-unfolding all
-all-from t d [] h = refl
-all-from t d (x ∷ xs) h = rw (h 0) (all-from t d xs (λ i. h (suc i)))
-
+-- ---- the record
 -- the record's test
 pub record-ok : (rec : Record) → Hold (numbersOk rec) → rec .count < 4294967295 → recordOk rec ≡ true
 unfolding recordOk

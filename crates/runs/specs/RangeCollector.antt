@@ -10,7 +10,7 @@ use lib.Dec.{ltb, leb, eqb}
 use lib.ListN.{length, getD, length-set}
 use borrow.Author.Tests.{leb-true, lt-ltb, le-ltb, le-leb}
 use Rattle.machine.specs.Choice.{pick, all, every, refuse}
-use Rattle.machine.specs.ChoiceLaws.{Hold, hold}
+use Rattle.machine.specs.ChoiceLaws.{Hold, hold, all-from, held}
 use Rattle.machine.specs.Limits.{none}
 use Rattle.machine.specs.Stage.{posted}
 use Rattle.machine.specs.Store.{Store, freshRow, fits}
@@ -25,7 +25,7 @@ use Rattle.machine.specs.declared.Answer.the-variants.{Worked, Refused}
 use Rattle.runs.specs.Refused.{refuse-clear}
 use Rattle.runs.specs.Abs.{set-all, fit}
 use Rattle.runs.specs.Collect.{part-zero, part-in}
-use Rattle.runs.specs.Range.{numbersOk, Colours, InRange, Fine, held, all-from, record-ok, value-at, colour-at, gray-ok, grayed-in, grayed-length}
+use Rattle.runs.specs.Range.{numbersOk, Colours, InRange, Fine, record-ok, value-at, colour-at, gray-ok, grayed-in, grayed-length}
 
 -- a swept colour is a colour
 swept-ok : (c : ℕ) → colourOk c ≡ true → colourOk (swept c) ≡ true

@@ -10,7 +10,7 @@ use lib.ListN.{length, getD, set, length-set, List·getD-eq-default}
 use lib.Seq.{set-getD}
 use borrow.Author.Tests.{leb-true}
 use Rattle.machine.specs.Choice.{all}
-use Rattle.machine.specs.ChoiceLaws.{hold, all-at}
+use Rattle.machine.specs.ChoiceLaws.{hold, all-at, all-from, held}
 use Rattle.machine.specs.Limits.{none, limitsOk, sizesOk}
 use Rattle.machine.specs.Store.{Store, freshRow, fits}
 use Rattle.machine.specs.Range.{valueOk, statusOk, jobOk, rowOk}
@@ -26,7 +26,7 @@ use Rattle.machine.specs.declared.WriterTurn.{WriterTurn}
 use Rattle.machine.specs.declared.Answer.{Answer}
 use Rattle.runs.specs.Abs.{set-all}
 use Rattle.runs.specs.Frame.{At}
-use Rattle.runs.specs.Range.{Values, Colours, InRange, Mild, Fine, held, all-from, record-ok, value-at, grayed-in, grayed-length}
+use Rattle.runs.specs.Range.{Values, Colours, InRange, Mild, Fine, record-ok, value-at, grayed-in, grayed-length}
 
 -- each value of a list in range, none past its end
 all-value : (n : ℕ) (l : List ℕ) → all (valueOk n) l ≡ true → Values n l

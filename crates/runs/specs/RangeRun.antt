@@ -11,7 +11,7 @@ use lib.ListN.{length, getD, replicate, length-replicate, length-append}
 use borrow.Author.Tests.{leb-true, eq-eqb}
 use Rattle.moves.specs.Run.{IsStart}
 use Rattle.machine.specs.Choice.{all, every}
-use Rattle.machine.specs.ChoiceLaws.{Hold, hold}
+use Rattle.machine.specs.ChoiceLaws.{Hold, hold, held}
 use Rattle.machine.specs.Limits.{none, limitsOk, lengthsOk, sizesOk}
 use Rattle.machine.specs.Store.{Store, freshRow, fits, fitsRecord, fresh}
 use Rattle.machine.specs.Range.{placeOk, partOk, valueOk, holdOk, foundOk, statusOk, colourOk, jobOk, rowOk}
@@ -21,7 +21,7 @@ use Rattle.machine.specs.declared.Answer.the-variants.{Refused}
 use Rattle.runs.specs.Abs.{abs, Eight}
 use Rattle.runs.specs.Course.{turn-moves, same-each, start-is, Good, good-turn, good-fresh}
 use Rattle.runs.specs.Bounded.{bounded}
-use Rattle.runs.specs.Range.{numbersOk, InRange, mild-not, Fine, held}
+use Rattle.runs.specs.Range.{numbersOk, InRange, mild-not, Fine}
 use Rattle.runs.specs.RangeWriter.{write-fine}
 use Rattle.runs.specs.RangeCollector.{collect-fine}
 

@@ -10,7 +10,7 @@ use lib.Dec.{leb, eqb}
 use lib.ListN.{length, set, length-set}
 use borrow.Author.Tests.{ltb-true, eqb-false, lt-ltb, le-ltb, le-leb, not-true}
 use Rattle.machine.specs.Choice.{pick}
-use Rattle.machine.specs.ChoiceLaws.{hold}
+use Rattle.machine.specs.ChoiceLaws.{hold, held}
 use Rattle.machine.specs.Limits.{none}
 use Rattle.machine.specs.Stage.{posted}
 use Rattle.machine.specs.Store.{Store}
@@ -41,7 +41,7 @@ use Rattle.runs.specs.Refused.{refuse-clear}
 use Rattle.runs.specs.Abs.{set-all, fit, Eight}
 use Rattle.runs.specs.Creating.{free-is}
 use Rattle.runs.specs.RangeRow.{Sound, FineRow, FineQuiet, with-idle, same, put, put-quiet, put-gray, sound, slot-ok, with-job, with-slot, with-status, field-ok, pages}
-use Rattle.runs.specs.Range.{Values, Colours, InRange, Fine, held, cell-ok, gray-ok}
+use Rattle.runs.specs.Range.{Values, Colours, InRange, Fine, cell-ok, gray-ok}
 
 -- the posted number is a status
 posted-ok : (t : ℕ) → leb (posted t) 2 ≡ true

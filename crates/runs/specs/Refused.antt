@@ -1,26 +1,11 @@
--- A call's list of tests taken apart: what holds of each refusal and of the outcome holds of the call.
+-- A call's list of tests where those of refusals 1 and 2 hold.
 use Prim.Native.Nat.{ℕ, _≤_}
 use mathlib.Core.Path.{_≡_, refl, sym, _∙_}
 use mathlib.Core.Logic.{_⊎_, inl, inr}
 use mathlib.Core.List.{List, [], _∷_}
 use mathlib.Core.Bool.{Bool, true, false, false≢true}
 use Rattle.machine.specs.Choice.{pick, refuse}
-
--- each of the tests holds
-abbrev pub Passed : List (Bool × ℕ) → Type 0
-Passed [] = Unit {0}
-Passed (t ∷ ts) = (t .0 ≡ true) × Passed ts
-
--- what holds of every refusal, and of the outcome if all tests pass, holds of the call
-pub refuse-cases : {A : Type 0} (P : A → Type 0) (say : ℕ → A) (ts : List (Bool × ℕ)) (o : A) → ((k : ℕ) → P (say k)) → (Passed ts → P o)
-    → P (refuse say ts o)
-unfolding refuse
-refuse-cases P say [] o r h = h tt
-refuse-cases P say (t ∷ ts) o r h = go (t .0) (λ e. refuse-cases P say ts o r (λ p. h (e, p)))
-  where
-    go : (b : Bool) → (b ≡ true → P (refuse say ts o)) → P (pick b (refuse say ts o) (say (t .1)))
-    go true h = h refl
-    go false h = r (t .1)
+use Rattle.machine.specs.ChoiceLaws.{Passed}
 
 -- each of the tests holds, but for those whose refusal has a number from 3 on
 abbrev pub Clear : List (Bool × ℕ) → Type 0

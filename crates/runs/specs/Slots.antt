@@ -8,6 +8,7 @@ use borrow.Author.Tests.{ltb-true, eqb-false, not-true}
 use Rattle.moves.specs.Machine as Abstract
 use Rattle.moves.specs.Writing as Writing
 use Rattle.moves.specs.Moves.{by-writer}
+use Rattle.machine.specs.ChoiceLaws.{refuse-cases}
 use Rattle.machine.specs.Limits.{none}
 use Rattle.machine.specs.Store.{Store}
 use Rattle.machine.specs.RangeLaws.{value-cell, sound-row, row-slot}
@@ -16,7 +17,6 @@ use Rattle.machine.specs.Turns.{done, isIdle}
 use Rattle.machine.specs.Slots.{page, copy, drop, readCell, read}
 use Rattle.machine.specs.Machine.{rowOf}
 use Rattle.machine.specs.declared.Row.{Row}
-use Rattle.runs.specs.Refused.{refuse-cases}
 use Rattle.runs.specs.Abs.{absJob, absRow, abs, field-in, eight-put}
 use Rattle.runs.specs.Frame.{Quiet, put-same, idle-is, At, put-row, slot-at, slot-set, slot-eight}
 

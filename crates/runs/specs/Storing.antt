@@ -8,6 +8,7 @@ use borrow.Author.Tests.{ltb-true, ne-eqb}
 use Rattle.moves.specs.Machine as Abstract
 use Rattle.moves.specs.Writing as Writing
 use Rattle.moves.specs.Moves.{by-writer}
+use Rattle.machine.specs.ChoiceLaws.{refuse-cases}
 use Rattle.machine.specs.Choice.{pick, differ}
 use Rattle.machine.specs.Limits.{none}
 use Rattle.machine.specs.Stage.{tracing}
@@ -22,7 +23,6 @@ use Rattle.machine.specs.declared.Plan.{Plan}
 use Rattle.machine.specs.declared.Plan.the-variants.{FullRead, FullOld, FullNew, FullWrite, TracedRead, TracedOld, TracedWrite, BareWrite}
 use Rattle.machine.specs.declared.Job.the-variants.{Idle, Busy}
 use Rattle.machine.specs.declared.Work.the-variants.{Storing}
-use Rattle.runs.specs.Refused.{refuse-cases}
 use Rattle.runs.specs.Abs.{stageAt, stageIn, absStored, absJob, abs, abs-grayed, abs-rows, abs-field, field-in}
 use Rattle.runs.specs.Frame.{Wrote, Quiet, put-same, idle-is, At, in-desk, put-row, put-job, job-eight, slot-at}
 

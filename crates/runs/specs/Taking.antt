@@ -6,6 +6,7 @@ use native.Mathlib.Omega.{arith}
 use lib.ListN.{length, getD}
 use lib.Seq.{getD-set-same}
 use borrow.Author.Tests.{ltb-true}
+use Rattle.machine.specs.ChoiceLaws.{refuse-cases}
 use Rattle.machine.specs.Limits.{none}
 use Rattle.machine.specs.Store.{Store, Outcome, freshRow}
 use Rattle.machine.specs.Parts.{withJob}
@@ -18,7 +19,6 @@ use Rattle.machine.specs.declared.Room.the-variants.{Full, Bad}
 use Rattle.machine.specs.declared.Room.the-variants.{Free as Lowest}
 use Rattle.machine.specs.declared.Answer.{Answer}
 use Rattle.machine.specs.declared.Answer.the-variants.{Done, More, Worked, Waited, Refused}
-use Rattle.runs.specs.Refused.{refuse-cases}
 use Rattle.runs.specs.Abs.{fit}
 use Rattle.runs.specs.Creating.{free-is}
 use Rattle.runs.specs.Demand3.{carried, Free, creates, Takes}

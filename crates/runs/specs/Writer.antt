@@ -4,7 +4,7 @@ use mathlib.Core.Path.{_≡_, refl}
 use mathlib.Core.Bool.{true}
 use mathlib.Core.Logic.{inr}
 use borrow.Author.Tests.{ltb-true, leb-true}
-use Rattle.machine.specs.ChoiceLaws.{hold}
+use Rattle.machine.specs.ChoiceLaws.{hold, refuse-cases}
 use Rattle.machine.specs.Store.{Store}
 use Rattle.machine.specs.Range.{storedOk, madeOk, workOk, jobOk}
 use Rattle.machine.specs.RangeLaws.{sound-row, row-job}
@@ -15,7 +15,6 @@ use Rattle.machine.specs.declared.Job.{Job}
 use Rattle.machine.specs.declared.Job.the-variants.{Idle, Busy}
 use Rattle.machine.specs.declared.Work.the-variants.{Answering, Storing, Creating}
 use Rattle.machine.specs.declared.Call.{Call}
-use Rattle.runs.specs.Refused.{refuse-cases}
 use Rattle.runs.specs.Abs.{fit, Eight, Steps}
 use Rattle.runs.specs.Frame.{Wrote, put-same, At}
 use Rattle.runs.specs.Slots.{page-moves, copy-moves, drop-moves, read-moves}
