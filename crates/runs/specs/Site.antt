@@ -15,7 +15,7 @@ use Rattle.machine.specs.Machine.{Turn, turn, starting, turning, outcomeOf, Mee
 use Rattle.machine.specs.Run.{run, workingTurns, C}
 use Rattle.machine.specs.declared.Answer.{Answer}
 use Rattle.machine.specs.declared.Answer.the-variants.{Done, Refused}
-use Rattle.runs.specs.Demand3.{Reachable, Free, Holds}
+use Rattle.runs.specs.Demand3.{Reachable, Free, Takes, Holds}
 use Rattle.runs.specs.Proof.{demand3}
 
 -- these turns, each call of which met its contract, led from one memory to the other
@@ -27,6 +27,8 @@ pub data Played : Store → List Turn → Store → Type 0 where
 pub record Promised (n g : ℕ) (new : Store) : Type 0 where
   -- what is reachable isn't free
   pub safe : (ts : List Turn) (now : Store) → Played new ts now → (x : ℕ) → Reachable now x → ¬ Free now x
+  -- and no create takes it
+  pub untaken : (ts : List Turn) (now : Store) → Played new ts now → (x : ℕ) → Reachable now x → (w s : ℕ) → ¬ Takes now w s x
   -- a cell in use that isn't reachable has been free by the time that 3 × C working turns are made
   pub freed : (ts : List Turn) (now : Store) → Played new ts now → (x : ℕ) → x < n → ¬ Free now x → ¬ Reachable now x
       → (later : List Turn) (after : Store) → Played now later after → 3 * C n g ≤ workingTurns now later
@@ -54,6 +56,7 @@ answered {st} {after} {a} t m = answer-said a (turn t st .answer) (m .says)
 fresh-promised : {n g : ℕ} {new : Store} → Holds n g new → Promised n g new
 fresh-promised {n} {g} {new} h = record {
   safe = λ ts now p x r. subst (λ (s : Store). Reachable s x → ¬ Free s x) (sym (played-run p)) (h .never-free ts x) r;
+  untaken = λ ts now p x. subst (λ (s : Store). Reachable s x → (w k : ℕ) → ¬ Takes s w k x) (sym (played-run p)) (h .never-taken ts x);
   freed = λ ts now p x b f r later after q w.
       let e = played-run p in
       let k = h .freed ts x b (subst (λ (s : Store). ¬ Free s x) e f) (subst (λ (s : Store). ¬ Reachable s x) e r) later (subst (λ (s : Store). 3 * C n g ≤ workingTurns s later) e w) in
