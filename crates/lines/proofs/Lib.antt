@@ -1,0 +1,5 @@
+pub mod Splitting
+pub mod Reading
+pub mod Args
+pub mod Digits
+pub mod Written

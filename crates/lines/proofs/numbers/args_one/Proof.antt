@@ -1,0 +1,23 @@
+use borrow.Author.Needs.{needs}
+use Rattle.lines.specs.Lines.{argsOf}
+use Rattle.lines.proofs.Args.{args}
+use Rattle.lines.proofs.numbers.args_one.Statement.{statement}
+use Rattle.lines.proofs.numbers.args_one.Tie as tie
+
+pub args-one-spec : {M : Type 1} → statement M
+unfolding argsOf
+args-one-spec =
+    tie.close
+    (tie.spec
+    (λ c. search args)
+    (λ c. search needs)
+    (λ c κs. search needs)
+    (λ c. search needs)
+    (λ c. search needs)
+    (λ c. search needs)
+    (λ c κs. search needs)
+    (λ c. search needs)
+    (λ c. search needs)
+    (λ c. search args)
+    (λ c κs. search needs)
+    (λ c. search args))
