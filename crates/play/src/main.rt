@@ -1,0 +1,155 @@
+// Plays the text of standard input on the player's own store, and writes an output line for each line.
+use player::Fed;
+use player::Play;
+ghost use mathlib.Core.Path.{_≡_};
+ghost use Prim.Native.Nat.{_≤_};
+ghost use lib.ListN.{length};
+ghost use Rattle.player.specs.Play.{Ready};
+
+// Whether to go on, and the player.
+struct Some {
+    go: bool,
+    play: Play,
+}
+
+// Writes what stands in the output buffer.
+fn flush(out: &[u8], at: usize) -> bool {
+    if out.len() < at {
+        return false;
+    }
+    io::write_all(1, &out[..at])
+}
+
+// The next byte's place, which is the old one where nothing could be written: then the player stops.
+fn next_of(written: bool, from: usize, next: usize) -> usize
+    requires { ⌜ from ≤ next ⌝ }
+    ensures { λ r. ⌜ (from ≤ r) × (r ≤ next) ⌝ }
+{
+    if written {
+        return next;
+    }
+    from
+}
+
+// Plays bytes of a chunk from `from` on, and writes what they gave.
+fn send(
+    chunk: &[u8],
+    from: usize,
+    line: &mut [u8],
+    out: &mut [u8],
+    fields: &mut [u16],
+    colours: &mut [u8],
+    p: Play,
+) -> Fed
+    requires { ⌜ Ready (now line) (now fields) (now colours) p ⌝ }
+    requires { ⌜ 77 ≤ length (now out) ⌝ }
+    requires { ⌜ from ≤ length (now chunk) ⌝ }
+    ensures { λ r. ⌜ (r .next ≤ length (now (chunk .entry))) × Ready (now (line .exit)) (now (fields .exit)) (now (colours .exit)) (r .play) ⌝ }
+{
+    let f = player::take_bytes(chunk, from, line, out, fields, colours, p);
+    let q = f.play;
+    let written = flush(out, q.at);
+    let kept = player::emptied(q);
+    Fed {
+        next: next_of(written, from, f.next),
+        play: kept,
+    }
+}
+
+// Plays all bytes of a chunk.
+fn drain(
+    chunk: &[u8],
+    line: &mut [u8],
+    out: &mut [u8],
+    fields: &mut [u16],
+    colours: &mut [u8],
+    start: Play,
+) -> Some
+    requires { ⌜ Ready (now line) (now fields) (now colours) start ⌝ }
+    requires { ⌜ 77 ≤ length (now out) ⌝ }
+    ensures { λ r. ⌜ Ready (now (line .exit)) (now (fields .exit)) (now (colours .exit)) (r .play) ⌝ }
+{
+    let mut p = start;
+    let mut from = 0;
+    while from < chunk.len() {
+        let f = send(chunk, from, line, out, fields, colours, p);
+        let kept = f.play;
+        if f.next <= from {
+            return Some {
+                go: false,
+                play: kept,
+            };
+        }
+        from = f.next;
+        p = kept;
+    }
+    if 4294967295 <= p.count {
+        return Some { go: false, play: p };
+    }
+    Some { go: true, play: p }
+}
+
+// The end of the input: the bytes after the last line end are a line too.
+fn close_text(line: &[u8], out: &mut [u8], fields: &mut [u16], colours: &mut [u8], p: Play)
+    requires { ⌜ Ready (now line) (now fields) (now colours) p ⌝ }
+    requires { ⌜ 77 ≤ length (now out) ⌝ }
+{
+    flush(out, p.at);
+    let kept = player::emptied(p);
+    let q = player::finish(line, out, fields, colours, kept);
+    flush(out, q.at);
+}
+
+// Reads once, and plays what came.
+fn read_some(
+    input: &mut [u8],
+    line: &mut [u8],
+    out: &mut [u8],
+    fields: &mut [u16],
+    colours: &mut [u8],
+    p: Play,
+) -> Some
+    requires { ⌜ Ready (now line) (now fields) (now colours) p ⌝ }
+    requires { ⌜ 77 ≤ length (now out) ⌝ }
+    ensures { λ r. ⌜ Ready (now (line .exit)) (now (fields .exit)) (now (colours .exit)) (r .play) ⌝ }
+{
+    let got = libc::read(0, input);
+    if got <= 0 {
+        close_text(line, out, fields, colours, p);
+        return Some { go: false, play: p };
+    }
+    let n = io::count(got, input);
+    drain(&input[..n], line, out, fields, colours, p)
+}
+
+fn play_all(
+    input: &mut [u8],
+    line: &mut [u8],
+    out: &mut [u8],
+    fields: &mut [u16],
+    colours: &mut [u8],
+)
+    requires { ⌜ 65 ≡ length (now line) ⌝ }
+    requires { ⌜ 77 ≤ length (now out) ⌝ }
+    requires { ⌜ (16384 ≡ length (now fields)) × (4096 ≡ length (now colours)) ⌝ }
+{
+    let mut p = player::unstarted();
+    let mut turns = u64::MAX;
+    while turns > 0 {
+        let s = read_some(input, line, out, fields, colours, p);
+        if !s.go {
+            return;
+        }
+        p = s.play;
+        turns -= 1;
+    }
+}
+
+fn main() {
+    let mut input = io::large_buffer();
+    let mut out = io::large_buffer();
+    let mut line = [0u8; 65];
+    let mut fields: [u16; 16384] = [65535; 16384];
+    let mut colours: [u8; 4096] = [0; 4096];
+    play_all(&mut input, &mut line, &mut out, &mut fields, &mut colours);
+}

@@ -1,0 +1,4 @@
+pub mod Keeping
+pub mod Steps
+pub mod Plays
+pub mod Cut

@@ -1,0 +1,4 @@
+pub mod Game
+pub mod Own
+pub mod Play
+pub mod Cut
