@@ -1,10 +1,11 @@
 // A small site: one writer makes a cell, drops it, and a whole cycle of the collector takes it back. A line is written for each call:
-// who made it, and what it answered. Then the colours.
+// who made it, and what it answered. Then the colours, and the most turns that a cycle of this store, and of the largest, takes.
 use machine::Answer;
 use machine::Call;
 use machine::Job;
 use machine::Record;
 use machine::Row;
+use moves::cycle_bound;
 use turn::kept::Kept;
 use turn::kept::collect_kept;
 use turn::kept::start_kept;
@@ -98,6 +99,12 @@ fn wide(x: u8) -> u64 {
     x as u64
 }
 
+fn bound(n: u16, g: u16) {
+    io::write_all(1, b"at most ");
+    io::print_decimal(1, cycle_bound(n, g));
+    io::write_all(1, b" turns\n");
+}
+
 fn main() {
     let mut fields = [0u16; 8];
     let mut colours = [9u8; 2];
@@ -121,4 +128,6 @@ fn main() {
     io::write_all(1, b" ");
     io::print_decimal(1, wide(colours[1]));
     io::write_all(1, b"\n");
+    bound(2, 1);
+    bound(4096, 16);
 }
