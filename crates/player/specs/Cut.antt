@@ -1,10 +1,9 @@
 -- A run of the player over any cut of the input: each step is one call's promise.
 use Prim.Native.Nat.{ℕ}
 use mathlib.Core.Path.{_≡_}
+use mathlib.Core.Bool.{false}
 use mathlib.Core.List.{List, [], _++_}
 use lib.ListN.{take}
-use Rattle.player.specs.Game.{Game}
-use Rattle.player.specs.Own.{game}
 use Rattle.player.specs.Play.{total}
 use Rattle.player.specs.declared.step.Own.{Own}
 use Rattle.player.specs.declared.feed.Play.{Play}
@@ -30,11 +29,11 @@ all d bs = total (d .line) (d .out) (d .fields) (d .colours) (d .play) bs
 abbrev pub flush : Desk → Desk
 flush d = record { line = d .line; out = d .out; fields = d .fields; colours = d .colours; play = emptied (d .play) }
 
--- Run g w d pend s: begun at g, the bytes s were read in some chunks, pend of them are not fed yet, and w was written to the output
-pub data Run : Game → List ℕ → Desk → List ℕ → List ℕ → Type 0 where
-  begin : {line out fields colours : List ℕ} {own : Own}
-      → Run (game own fields colours) [] (record { line = line; out = out; fields = fields; colours = colours; play = begins own }) [] []
-  read : {g : Game} {w s : List ℕ} {d : Desk} (chunk : List ℕ) → Run g w d [] s → Run g w d chunk (s ++ chunk)
-  fed : {g : Game} {w pend pend′ s : List ℕ} {d d′ : Desk} → Run g w d pend s
-      → ((rest : List ℕ) → all d′ (pend′ ++ rest) ≡ all d (pend ++ rest)) → Run g w d′ pend′ s
-  flushed : {g : Game} {w pend s : List ℕ} {d : Desk} → Run g w d pend s → Run g (w ++ take (d .play .at) (d .out)) (flush d) pend s
+-- Run w d pend s: begun before any start, the bytes s were read in some chunks, pend of them are not fed yet, and w was written to the output
+pub data Run : List ℕ → Desk → List ℕ → List ℕ → Type 0 where
+  begin : {line out fields colours : List ℕ} {own : Own} → own .started ≡ false
+      → Run [] (record { line = line; out = out; fields = fields; colours = colours; play = begins own }) [] []
+  read : {w s : List ℕ} {d : Desk} (chunk : List ℕ) → Run w d [] s → Run w d chunk (s ++ chunk)
+  fed : {w pend pend′ s : List ℕ} {d d′ : Desk} → Run w d pend s
+      → ((rest : List ℕ) → all d′ (pend′ ++ rest) ≡ all d (pend ++ rest)) → Run w d′ pend′ s
+  flushed : {w pend s : List ℕ} {d : Desk} → Run w d pend s → Run (w ++ take (d .play .at) (d .out)) (flush d) pend s

@@ -1,7 +1,7 @@
 -- What the player is, without its text: a store, once a start has succeeded, and what each line makes of it.
 use Prim.Native.Nat.{ℕ}
 use mathlib.Core.List.{[], _∷_}
-use mathlib.Core.Bool.{Bool, true}
+use mathlib.Core.Bool.{Bool, true, false}
 use Rattle.machine.specs.Choice.{pick}
 use Rattle.machine.specs.Limits.{limitsOk}
 use Rattle.machine.specs.Store.{Store, Outcome, fresh}
@@ -16,6 +16,10 @@ use Rattle.lines.specs.declared.Line.{Line}
 pub record Game : Type 0 where
   pub started : Bool
   pub store : Store
+
+-- before any start: of its store, whatever it is, nothing is seen (proofs/Before.antt)
+abbrev pub unstarted : Game
+unstarted = record { started = false; store = fresh 0 0 0 }
 
 -- what a line gives: what is said, and the game after it
 pub record Step : Type 0 where

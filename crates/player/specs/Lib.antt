@@ -1,4 +1,6 @@
 pub mod Game
 pub mod Own
 pub mod Play
+pub mod Fill
 pub mod Cut
+pub mod Cases

@@ -8,7 +8,7 @@ use Rattle.machine.specs.Choice.{pick}
 use Rattle.lines.specs.Bytes.{lineEnd}
 use Rattle.lines.specs.Lines.{lineOf}
 use Rattle.lines.specs.Output.{outLine}
-use Rattle.player.specs.Game.{Game, lineStep}
+use Rattle.player.specs.Game.{Game, unstarted, lineStep}
 use Rattle.player.specs.Own.{game, Room}
 use Rattle.player.specs.declared.feed.Play.{Play}
 
@@ -33,6 +33,10 @@ playLines g k (l ∷ ls) =
 -- the output for a text
 unfoldable pub playText : Game → List ℕ → List ℕ
 playText g bs = playLines g 0 (linesFrom [] bs)
+
+-- THE PLAYER: the output is a function of the input
+unfoldable pub played : List ℕ → List ℕ
+played bs = playText unstarted bs
 
 -- ---- the player between two bytes
 -- what is written already, and what is still to be written when the bytes bs follow

@@ -1,4 +1,5 @@
 // The player between reads: bytes come in any cut, output lines go into a lent buffer.
+use crate::fill::fill_line;
 use crate::step::Own;
 use crate::step::Reply;
 use crate::step::line_step;
@@ -124,39 +125,6 @@ fn end_line(line: &[u8], out: &mut [u8], fields: &mut [u16], colours: &mut [u8],
     }
 }
 
-// One byte more.
-fn push(
-    b: u8,
-    line: &mut [u8],
-    out: &mut [u8],
-    fields: &mut [u16],
-    colours: &mut [u8],
-    p: Play,
-) -> Play
-    requires { ⌜ Ready (now line) (now fields) (now colours) p ⌝ }
-    requires { ⌜ p .at + 77 ≤ length (now out) ⌝ }
-    ensures { λ r. ⌜ Ready (now (line .exit)) (now (fields .exit)) (now (colours .exit)) r ⌝ }
-    ensures { λ r. ⌜ r .at ≤ p .at + 77 ⌝ }
-    ensures { λ r. ⌜ ((rest : List ℕ) → total (now (line .exit)) (now (out .exit)) (now (fields .exit)) (now (colours .exit)) r rest
-        ≡ total (now (line .entry)) (now (out .entry)) (now (fields .entry)) (now (colours .entry)) p (b ∷ rest)) ⌝ }
-{
-    if b == 10 {
-        return end_line(line, out, fields, colours, p);
-    }
-    let len = p.len;
-    if 65 <= len {
-        return p;
-    }
-    line[len] = b;
-    let own = p.own;
-    Play {
-        len: len + 1,
-        at: p.at,
-        count: p.count,
-        own: own,
-    }
-}
-
 // The bytes of a chunk from `from` on, until it is at its end or the output buffer is nearly full.
 pub fn take_bytes(
     chunk: &[u8],
@@ -173,17 +141,25 @@ pub fn take_bytes(
     ensures { λ r. ⌜ (from ≤ r .next) × (r .next ≤ length (now (chunk .entry))) × Ready (now (line .exit)) (now (fields .exit)) (now (colours .exit)) (r .play) ⌝ }
     ensures { λ r. ⌜ ((rest : List ℕ) → total (now (line .exit)) (now (out .exit)) (now (fields .exit)) (now (colours .exit)) (r .play) (drop (r .next) (now (chunk .entry)) ++ rest)
         ≡ total (now (line .entry)) (now (out .entry)) (now (fields .entry)) (now (colours .entry)) start (drop from (now (chunk .entry)) ++ rest)) ⌝ }
+    ensures { λ r. ⌜ (start .at + 77 ≤ length (now (out .entry)) → (r .play .at ≤ length (now (out .entry))) × (from < length (now (chunk .entry)) → from < r .next)) ⌝ }
 {
     let most = out.len() - 77;
     let mut p = start;
     let mut i = from;
+    if most < p.at {
+        return Fed { next: i, play: p };
+    }
     while i < chunk.len() {
+        let f = fill_line(chunk, i, line, p.len);
+        i = f.next;
+        p.len = f.len;
+        if !f.ended {
+            return Fed { next: i, play: p };
+        }
+        p = end_line(line, out, fields, colours, p);
         if most < p.at {
             return Fed { next: i, play: p };
         }
-        let b = chunk[i];
-        i += 1;
-        p = push(b, line, out, fields, colours, p);
     }
     Fed { next: i, play: p }
 }
@@ -192,7 +168,7 @@ pub fn take_bytes(
 pub fn finish(line: &[u8], out: &mut [u8], fields: &mut [u16], colours: &mut [u8], p: Play) -> Play
     requires { ⌜ Ready (now line) (now fields) (now colours) p ⌝ }
     requires { ⌜ p .at + 77 ≤ length (now out) ⌝ }
-    ensures { λ r. ⌜ (r .len ≡ 0) × (take (r .at) (now (out .exit)) ≡ total (now (line .entry)) (now (out .entry)) (now (fields .entry)) (now (colours .entry)) p []) ⌝ }
+    ensures { λ r. ⌜ (r .len ≡ 0) × (r .at ≤ p .at + 77) × (take (r .at) (now (out .exit)) ≡ total (now (line .entry)) (now (out .entry)) (now (fields .entry)) (now (colours .entry)) p []) ⌝ }
 {
     let len = p.len;
     if len == 0 {

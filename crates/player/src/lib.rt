@@ -1,5 +1,6 @@
 // The player: lines of text are played on its own store by the public calls, and each gives an output line.
 mod feed;
+mod fill;
 mod step;
 
 pub use feed::Fed;

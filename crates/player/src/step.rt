@@ -153,11 +153,13 @@ pub fn line_step(own: Own, fields: &mut [u16], colours: &mut [u8], line: Line) -
     requires { ⌜ Room own (now fields) (now colours) ⌝ }
     ensures { λ r. ⌜ Plays own (now (fields .entry)) (now (colours .entry)) line r (now (fields .exit)) (now (colours .exit)) ⌝ }
 {
-    let rec = own.rec;
-    let rows = own.rows;
     match line {
         Line::Unreadable => refused(own, 8),
-        Line::Start(n, g, m) => start_step(own.started, rec, rows, fields, colours, n, g, m),
+        Line::Start(n, g, m) => {
+            let rec = own.rec;
+            let rows = own.rows;
+            start_step(own.started, rec, rows, fields, colours, n, g, m)
+        }
         Line::Write(w, call) => write_step(own, fields, colours, w, call),
         Line::Collect => collect_step(own, fields, colours),
         Line::Census => census_step(own, fields, colours),

@@ -1,14 +1,13 @@
 use native.Mathlib.Omega.{arith}
 use borrow.Author.Needs.{needs}
 use lib.ListN.{length-take}
-use Rattle.play.proofs.flush.Statement.{statement}
-use Rattle.play.proofs.flush.Tie as tie
+use Rattle.playing.proofs.flush.Statement.{statement}
+use Rattle.playing.proofs.flush.Tie as tie
 
 pub flush-spec : {M : Type 1} → statement M
 flush-spec =
     tie.close
     (tie.spec
-    (λ c. search needs)
     (λ c. simp length-take (omega arith))
     (λ c κs. search needs)
     (λ c. search needs))

@@ -1,14 +1,14 @@
 use borrow.Author.Needs.{needs}
 use mathlib.Core.Path.{_≡_}
 use lib.ListN.{length}
-use Rattle.player.specs.Play.{Ready}
-use Rattle.play.proofs.Emptied.{first}
-use Rattle.play.proofs.play_all.Statement.{statement}
-use Rattle.play.proofs.play_all.Tie as tie
+use Rattle.playing.specs.Between.{Between}
+use Rattle.playing.proofs.Emptied.{first}
+use Rattle.playing.proofs.play_all.Statement.{statement}
+use Rattle.playing.proofs.play_all.Tie as tie
 
 abbrev Inv-loop : tie.InvT-loop
 Inv-loop input₀ line₀ out₀ fields₀ colours₀ p₀ turns₀ input line out fields colours p turns =
-    (length input ≡ length input₀) × (length out ≡ length out₀) × (length line ≡ length line₀) × (length fields ≡ length fields₀) × (length colours ≡ length colours₀) × Ready line fields colours p
+    (length input ≡ length input₀) × (length out ≡ length out₀) × (length line ≡ length line₀) × (length fields ≡ length fields₀) × (length colours ≡ length colours₀) × Between line out fields colours p
 
 abbrev μ-loop : tie.MeasureT-loop
 μ-loop input₀ line₀ out₀ fields₀ colours₀ p₀ turns₀ input line out fields colours p turns = turns

@@ -1,0 +1,4 @@
+// Plays the text of standard input.
+fn main() {
+    playing::play_input();
+}
