@@ -2,9 +2,8 @@
 
 use crate::timing::{both, head, row};
 use compare::chance::Chance;
-use compare::machine::{Machine, Reference};
+use compare::machine::{Machine, Proved, Reference};
 use compare::parts::{Parts, Sizes};
-use compare::proved::Proved;
 
 /// All cells in use, each field a random cell.
 fn tangled(sizes: Sizes) -> Parts {

@@ -1,9 +1,8 @@
 //! Turns by kind of call. Each batch leaves the store as it found it, or begins from a copy.
 
 use crate::timing::{both, head, row};
-use compare::machine::{Machine, Reference};
+use compare::machine::{Machine, Proved, Reference};
 use compare::parts::{Parts, Sizes};
-use compare::proved::Proved;
 use std::hint::black_box;
 
 /// Places of the record.
@@ -136,14 +135,18 @@ batch!(Drop, at_rest(), TIMES, M, parts, 1, {
 batch!(Read, at_rest(), TIMES, M, parts, 1, {
     black_box(M::read(parts.lend().0, 3, 0, 2, 1));
 });
-batch!(Bare, at_rest(), TIMES, M, parts, 2, { stores::<M>(parts, 2) });
+batch!(Bare, at_rest(), TIMES, M, parts, 2, {
+    stores::<M>(parts, 2)
+});
 batch!(Traced, at_stage(at_rest(), 4, 0), TIMES, M, parts, 4, {
     stores::<M>(parts, 4)
 });
 batch!(Full, at_stage(at_rest(), 1, 1), TIMES, M, parts, 5, {
     stores::<M>(parts, 5)
 });
-batch!(Create, at_rest(), TIMES, M, parts, 3, { creates::<M>(parts) });
+batch!(Create, at_rest(), TIMES, M, parts, 3, {
+    creates::<M>(parts)
+});
 batch!(CreateLast, nearly_full(), 2000, M, parts, 3, {
     creates::<M>(parts)
 });
@@ -151,13 +154,21 @@ batch!(AnswerOnce, at_stage(at_rest(), 1, 1), TIMES, M, parts, 1, {
     parts.desk[0] = 0;
     black_box(M::answer(parts.lend().0, 0));
 });
-batch!(AnswerSlots, at_stage(at_rest(), 3, 2), TIMES, M, parts, 10, {
-    parts.desk[0] = 2;
-    black_box(M::answer(parts.lend().0, 0));
-    for _ in 0..9 {
-        M::next(parts.lend().0, 0);
+batch!(
+    AnswerSlots,
+    at_stage(at_rest(), 3, 2),
+    TIMES,
+    M,
+    parts,
+    10,
+    {
+        parts.desk[0] = 2;
+        black_box(M::answer(parts.lend().0, 0));
+        for _ in 0..9 {
+            M::next(parts.lend().0, 0);
+        }
     }
-});
+);
 batch!(Refused, at_rest(), TIMES, M, parts, 1, {
     black_box(M::next(parts.lend().0, 3));
 });

@@ -55,7 +55,12 @@ pub fn table() {
     }
     let input = root.join("target/bench.turns");
     fs::write(&input, turn_file()).expect("target/ can be written");
-    let output = |program: &Path| play(program, &input).output().expect("the player runs").stdout;
+    let output = |program: &Path| {
+        play(program, &input)
+            .output()
+            .expect("the player runs")
+            .stdout
+    };
     assert!(output(&proved) == output(&plain), "the players differ");
     let pair = both(
         5,

@@ -4,6 +4,9 @@
 //! refusal changes nothing. [`Parts`] has the calls by name; [`lent`] has the same calls over plain
 //! slices of numbers, as C sees them.
 
+// A call has the parameters of `turns.h`, four of them the lent parts.
+#![allow(clippy::too_many_arguments)]
+
 pub mod lent;
 mod parts;
 

@@ -1,13 +1,13 @@
 // The census: six counts of a lent store. It changes nothing. Beside the call over the lent desk there is one with plain parameters, for who
-// keeps eight rows in an array.
+// keeps eight rows in an array; the census by value in `core` is for who lends a desk of another form.
 ghost use lib.ListN.{take};
 ghost use Rattle.machine.specs.Machine.{Meets, counting};
 ghost use Rattle.machine.specs.Store.{parts};
 ghost use Rattle.turn.specs.Lent.{ownRows};
 
-mod core;
+pub mod core;
 mod counts;
-mod desk;
+pub mod desk;
 mod reach;
 
 use crate::core::census_core;

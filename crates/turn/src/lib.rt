@@ -1,11 +1,12 @@
 // The public calls: start, write, collect. Each takes any numbers and any lent memory. The record, the desk, the fields and the colours
-// are lent; a call with plain parameters beside each is for who keeps eight rows in an array.
+// are lent; a call with plain parameters beside each is for who keeps eight rows in an array, and the calls by value in `core` are for who
+// lends a desk of another form.
 ghost use mathlib.Core.Path.{_≡_};
 ghost use Rattle.machine.specs.Machine.{Meets, turning, starting, writer, collector};
 ghost use Rattle.machine.specs.Store.{parts};
 
-mod core;
-mod desk;
+pub mod core;
+pub mod desk;
 pub mod kept;
 
 use crate::core::collect_core;

@@ -1,0 +1,193 @@
+-- "A refusal returns its number and nothing else changes": a turn by value that is refused leaves fields and
+-- colours, and one of the collector that waits leaves everything.
+use Prim.Native.Nat.{ℕ}
+use mathlib.Core.Path.{_≡_, refl}
+use mathlib.Core.Bool.{Bool, true, false, false≢true, true≢false}
+use mathlib.Core.List.{List, [], _∷_}
+use lib.Dec.{ltb, eqb}
+use Rattle.machine.specs.Choice.{pick, among}
+use Rattle.machine.specs.ChoiceLaws.{refuse-cases}
+use Rattle.machine.specs.Parts.{colourOf, withPlace, withFound}
+use Rattle.machine.specs.Turns.{Written, Collected, collected, worked, waited}
+use Rattle.machine.specs.Answering.{nextAnswering}
+use Rattle.machine.specs.Storing.{storeRead, storeGray, storeWrite, nextStoring}
+use Rattle.machine.specs.Creating.{lowestFree, takeCell, take, create, look, nextCreating}
+use Rattle.machine.specs.Writer.{nextWork, nextJob, next, turnOf}
+use Rattle.machine.specs.Collector.{entering, opening, waiting, marking, endPass, scanPlace, scanHold, scanGray, scanClose, scanning, sweeping, byStage, collectorTurn}
+use Rattle.machine.specs.declared.Record.{Record}
+use Rattle.machine.specs.declared.Row.{Row}
+use Rattle.machine.specs.declared.Call.{Call}
+use Rattle.machine.specs.declared.Answer.{Answer}
+use Rattle.machine.specs.declared.Answer.the-variants.{Done, More, Worked, Waited, Refused}
+use Rattle.machine.specs.declared.CollectorTurn.{CollectorTurn}
+use Rattle.machine.specs.declared.Stored.{Stored}
+use Rattle.machine.specs.declared.Made.{Made}
+use Rattle.machine.specs.declared.Plan.{Plan}
+use Rattle.machine.specs.declared.Plan.the-variants.{FullRead, FullOld, FullNew, FullWrite, TracedRead, TracedOld, TracedWrite, BareWrite}
+use Rattle.machine.specs.declared.Look.{Look}
+use Rattle.machine.specs.declared.Look.the-variants.{Ahead, Keep, White}
+use Rattle.machine.specs.declared.Room.{Room}
+use Rattle.machine.specs.declared.Room.the-variants.{Free, Full, Bad}
+use Rattle.machine.specs.declared.Job.{Job}
+use Rattle.machine.specs.declared.Job.the-variants.{Idle, Busy}
+use Rattle.machine.specs.declared.Work.{Work}
+use Rattle.machine.specs.declared.Work.the-variants.{Answering, Storing, Creating}
+use Rattle.machine.specs.declared.Survey.{Survey}
+use Rattle.turn.specs.Lent.{writing, collecting, Begun, beginning}
+use Rattle.turns.specs.Plain.{isRefused}
+
+-- ---- a writer's turn
+module _ (rec : Record) (row : Row) (fs cs : List ℕ) where
+  abbrev Still : Written → Type 0
+  Still o = isRefused (o .turn .answer) ≡ true → (o .fields ≡ fs) × (o .colours ≡ cs)
+
+  -- by a test
+  either : (b : Bool) (x y : Written) → Still x → Still y → Still (pick b x y)
+  either true x y h k = h
+  either false x y h k = k
+
+  still-take : (s : ℕ) (r : Room) → Still (take row fs cs s r)
+  unfolding take takeCell isRefused
+  still-take s (Free n) e = absurd (false≢true e)
+  still-take s Full e = (refl, refl)
+  still-take s Bad e = (refl, refl)
+
+  still-gray : (v : ℕ) (s : Stored) (p : Plan) → Still (storeGray row fs cs v s p)
+  unfolding storeGray isRefused
+  still-gray v s p = refuse-cases Still _ _ _ (λ k e. (refl, refl)) (λ t e. absurd (false≢true e))
+
+  still-read : (s : Stored) (p : Plan) → Still (storeRead (rec .n) row fs cs s p)
+  unfolding storeRead
+  still-read s p = refuse-cases Still _ _ _ (λ k e. (refl, refl)) (λ t e. (refl, refl))
+
+  still-write : (s : Stored) → Still (storeWrite row fs cs s)
+  unfolding storeWrite isRefused
+  still-write s e = absurd (false≢true e)
+
+  still-storing : (s : Stored) (p : Plan) → Still (nextStoring (rec .n) row fs cs s p)
+  unfolding nextStoring
+  still-storing s FullRead = still-read s FullOld
+  still-storing s FullOld = still-gray (s .old) s FullNew
+  still-storing s FullNew = still-gray (s .new) s FullWrite
+  still-storing s FullWrite = still-write s
+  still-storing s TracedRead = still-read s TracedOld
+  still-storing s TracedOld = still-gray (s .old) s TracedWrite
+  still-storing s TracedWrite = still-write s
+  still-storing s BareWrite = still-write s
+
+  still-creating : (m : Made) (l : Look) → Still (nextCreating rec row fs cs m l)
+  unfolding nextCreating isRefused
+  still-creating m Ahead e = (refl, refl)
+  still-creating m Keep e = (refl, refl)
+  still-creating m White e = absurd (false≢true e)
+
+  still-work : (w : Work) → Still (nextWork rec row fs cs w)
+  unfolding nextWork nextAnswering isRefused
+  still-work (Answering k) = either (ltb k 8) _ _ (refuse-cases Still _ _ _ (λ k e. (refl, refl)) (λ t e. absurd (false≢true e))) (λ e. (refl, refl))
+  still-work (Storing s p) = still-storing s p
+  still-work (Creating m) = still-creating m (m .look)
+
+  still-job : (j : Job) → Still (nextJob rec row fs cs j)
+  unfolding nextJob
+  still-job Idle = λ e. (refl, refl)
+  still-job (Busy w) = still-work w
+
+  still-turn : (call : Call) → Still (turnOf rec row fs cs call)
+  unfolding turnOf create next
+  still-turn (Call.Page p s) = λ e. (refl, refl)
+  still-turn (Call.Copy r s) = λ e. (refl, refl)
+  still-turn (Call.Drop r) = λ e. (refl, refl)
+  still-turn (Call.Read r f s) = λ e. (refl, refl)
+  still-turn (Call.Store r f q) = λ e. (refl, refl)
+  still-turn (Call.Create s) = refuse-cases Still _ _ _ (λ k e. (refl, refl)) (λ t. still-take s (lowestFree 0 cs))
+  still-turn Call.Answer = λ e. (refl, refl)
+  still-turn Call.Next = refuse-cases Still _ _ _ (λ k e. (refl, refl)) (λ t. still-job (row .job))
+
+  pub write-still : (rows w : ℕ) (call : Call) → Still (writing rec rows w row fs cs call)
+  unfolding writing
+  write-still rows w call = refuse-cases Still _ _ _ (λ k e. (refl, refl)) (λ t. still-turn call)
+
+-- ---- the collector's turn: one that waits leaves the record too
+abbrev pub idles : Answer → Bool
+idles Done = false
+idles More = false
+idles Worked = false
+idles Waited = true
+idles (Refused k) = true
+
+pub refused-idles : (a : Answer) → isRefused a ≡ true → idles a ≡ true
+unfolding isRefused
+refused-idles Done e = e
+refused-idles More e = e
+refused-idles Worked e = e
+refused-idles Waited e = refl
+refused-idles (Refused k) e = refl
+
+module _ (rec : Record) (seen : Survey) (fs cs : List ℕ) where
+  abbrev Same : Collected → Type 0
+  Same o = idles (o .turn .answer) ≡ true → (o .turn .rec ≡ rec) × (o .colours ≡ cs)
+
+  one-of : (b : Bool) (x y : Collected) → Same x → Same y → Same (pick b x y)
+  one-of true x y h k = h
+  one-of false x y h k = k
+
+  same-waiting : (next : ℕ) → Same (collected (waiting rec seen next) cs)
+  unfolding waiting
+  same-waiting next = refuse-cases (λ (t : CollectorTurn). Same (collected t cs)) _ _ _ (λ k e. (refl, refl)) (λ t. go (seen .same))
+    where
+      go : (b : Bool) → Same (collected (pick b (worked (entering rec next)) (waited rec)) cs)
+      go true e = absurd (false≢true e)
+      go false e = (refl, refl)
+
+  same-marking : Same (marking rec seen cs)
+  unfolding marking
+  same-marking = one-of (ltb (rec .place) (rec .g)) _ _ (refuse-cases Same _ _ _ (λ k e. (refl, refl)) (λ t e. absurd (false≢true e))) (same-waiting 4)
+
+  same-pass : Same (collected (endPass rec) cs)
+  unfolding endPass
+  same-pass = go (eqb (rec .found) 0)
+    where
+      go : (b : Bool) → Same (collected (pick b (worked (entering rec 5)) (worked (withFound (withPlace rec 0) 0))) cs)
+      go true e = absurd (false≢true e)
+      go false e = absurd (false≢true e)
+
+  same-place : Same (scanPlace rec cs)
+  unfolding scanPlace
+  same-place =
+      one-of (ltb (rec .place) (rec .n)) _ _
+      (refuse-cases Same _ _ _ (λ k e. (refl, refl)) (λ t. one-of (eqb (colourOf cs (rec .place)) 2) _ _ (λ e. absurd (false≢true e)) (λ e. absurd (false≢true e)))) same-pass
+
+  same-scanning : (part : ℕ) → Same (scanning rec fs cs part)
+  unfolding scanning scanHold scanGray scanClose
+  same-scanning part =
+      one-of (eqb part 0) _ _ same-place
+      (one-of (among (1 ∷ 3 ∷ 5 ∷ 7 ∷ []) part) _ _ (refuse-cases Same _ _ _ (λ k e. (refl, refl)) (λ t e. absurd (false≢true e)))
+      (one-of (among (2 ∷ 4 ∷ 6 ∷ 8 ∷ []) part) _ _ (refuse-cases Same _ _ _ (λ k e. (refl, refl)) (λ t e. absurd (false≢true e))) (λ e. absurd (false≢true e))))
+
+  same-sweeping : Same (sweeping rec cs)
+  unfolding sweeping
+  same-sweeping =
+      one-of (ltb (rec .place) (rec .n)) _ _ (refuse-cases Same _ _ _ (λ k e. (refl, refl)) (λ t e. absurd (false≢true e))) (λ e. absurd (false≢true e))
+
+  pub stage-same : (stage : ℕ) → Same (byStage rec seen fs cs stage)
+  unfolding byStage opening
+  stage-same stage =
+      one-of (eqb stage 0) _ _ (λ e. absurd (false≢true e))
+      (one-of (eqb stage 1) _ _ (same-waiting 2)
+      (one-of (eqb stage 2) _ _ (same-waiting 3)
+      (one-of (eqb stage 3) _ _ same-marking
+      (one-of (eqb stage 4) _ _ (same-scanning (rec .part)) same-sweeping))))
+
+  pub collect-same : (rows : ℕ) → Same (collecting rec rows seen fs cs)
+  unfolding collecting collectorTurn
+  collect-same rows = refuse-cases Same _ _ _ (λ k e. (refl, refl)) (λ t. refuse-cases Same _ _ _ (λ k e. (refl, refl)) (λ u. stage-same (rec .stage)))
+
+-- ---- start: refused, it leaves fields and colours; else the desk is to be filled
+module _ (n g m : ℕ) (rec : Record) (rows : ℕ) (fs cs : List ℕ) where
+  pub start-still : isRefused (beginning n g m rec rows fs cs .started .answer) ≡ true → (beginning n g m rec rows fs cs .fields ≡ fs) × (beginning n g m rec rows fs cs .colours ≡ cs)
+  unfolding beginning isRefused
+  start-still = refuse-cases (λ (b : Begun). isRefused (b .started .answer) ≡ true → (b .fields ≡ fs) × (b .colours ≡ cs)) _ _ _ (λ k e. (refl, refl)) (λ t e. absurd (false≢true e))
+
+  pub start-goes : isRefused (beginning n g m rec rows fs cs .started .answer) ≡ false → beginning n g m rec rows fs cs .started .go ≡ true
+  unfolding beginning isRefused
+  start-goes = refuse-cases (λ (b : Begun). isRefused (b .started .answer) ≡ false → b .started .go ≡ true) _ _ _ (λ k e. absurd (true≢false e)) (λ t e. refl)
