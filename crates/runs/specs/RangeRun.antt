@@ -19,7 +19,7 @@ use Rattle.machine.specs.Machine.{Turn, writer, collector, turn}
 use Rattle.machine.specs.Run.{run, C}
 use Rattle.machine.specs.declared.Answer.the-variants.{Refused}
 use Rattle.runs.specs.Abs.{abs, Eight}
-use Rattle.runs.specs.Course.{turn-moves, same-each, start-is, Good, good-turn, good-fresh}
+use Rattle.runs.specs.Course.{turn-moves, same-each, start-is, Good, good-turn, good-fresh, good}
 use Rattle.runs.specs.Bounded.{bounded}
 use Rattle.runs.specs.Range.{numbersOk, InRange, mild-not, Fine}
 use Rattle.runs.specs.RangeWriter.{write-fine}
@@ -77,19 +77,31 @@ module _ {n g m : ℕ} (b : n ≤ 4096) (d : g ≤ n) (S : IsStart (abs (fresh n
   fine-turn : (st : Store) → Good n g m st → InRange st → (t : Turn) → Fine (turn t st)
   fine-turn st G R t = turn-fine st (G .eight) R (small n g (st .rec .count) b d (bounded S G)) t
 
-  -- a turn after a run
-  range-run : (turns : List Turn) (st : Store) → Good n g m st → InRange st → (t : Turn) → Fine (turn t (run st turns))
+  -- a run
+  range-run : (turns : List Turn) (st : Store) → Good n g m st → InRange st → InRange (run st turns)
   unfolding run
-  range-run [] st G R t = fine-turn st G R t
-  range-run (u ∷ us) st G R t = range-run us (turn u st .store) (good-turn st (turn u st) (turn-moves st (G .eight) u) G) (fine-turn st G R u .after) t
+  range-run [] st G R = R
+  range-run (t ∷ ts) st G R = range-run ts (turn t st .store) (good-turn st (turn t st) (turn-moves st (G .eight) t) G) (fine-turn st G R t .after)
 
--- the last sentence of Demand3
-pub stays-in-range : (n g m : ℕ) → limitsOk n g m ≡ true → (turns : List Turn) (t : Turn)
-    → (turn t (run (fresh n g m) turns) .answer ≢ Refused 1) × (turn t (run (fresh n g m) turns) .answer ≢ Refused 2)
-unfolding limitsOk
-stays-in-range n g m e turns t = let h = hold _ e in
-    let d : g ≤ n = leb-true _ _ (h .1 .1 .1 .1 .0) in
-    let b : n ≤ 4096 = leb-true _ _ (h .1 .0) in
-    let S = start-is n g m d b in
-    let a = range-run b d S turns (fresh n g m) (good-fresh n g m) (fresh-range n g m e d S) t .mild in
-    (mild-not _ 1 a (omega arith), mild-not _ 2 a (omega arith))
+module _ (n g m : ℕ) (e : limitsOk n g m ≡ true) where
+  -- the limits that make a fresh store a start of moves
+  cells : n ≤ 4096
+  unfolding limitsOk
+  cells = leb-true _ _ (hold _ e .1 .0)
+
+  pages : g ≤ n
+  unfolding limitsOk
+  pages = leb-true _ _ (hold _ e .1 .1 .1 .1 .0)
+
+  begins : IsStart (abs (fresh n g m))
+  begins = start-is n g m pages cells
+
+  -- every run from a fresh store
+  pub run-in-range : (turns : List Turn) → InRange (run (fresh n g m) turns)
+  run-in-range turns = range-run cells pages begins turns (fresh n g m) (good-fresh n g m) (fresh-range n g m e pages begins)
+
+  -- the last sentence of Demand3
+  pub stays-in-range : (turns : List Turn) (t : Turn) → (turn t (run (fresh n g m) turns) .answer ≢ Refused 1) × (turn t (run (fresh n g m) turns) .answer ≢ Refused 2)
+  stays-in-range turns t =
+      let a = fine-turn cells pages begins (run (fresh n g m) turns) (good n g m turns) (run-in-range turns) t .mild in
+      (mild-not _ 1 a (omega arith), mild-not _ 2 a (omega arith))

@@ -39,7 +39,7 @@ pub record Promised (n g : ℕ) (new : Store) : Type 0 where
   pub in-range : (ts : List Turn) (now : Store) → Played new ts now → (t : Turn) (a : Answer) (after : Store) → Meets (turning t) now a after → (a ≢ Refused 1) × (a ≢ Refused 2)
 
 -- the memory is that of the run, and each run can be played
-played-run : {st after : Store} {ts : List Turn} → Played st ts after → after ≡ run st ts
+pub played-run : {st after : Store} {ts : List Turn} → Played st ts after → after ≡ run st ts
 unfolding run outcomeOf
 played-run stay = refl
 played-run (call {st} {next} {after} {ts} t a m p) = played-run p ∙ rw (m .leaves) refl

@@ -1,0 +1,10 @@
+pub mod Desk
+pub mod Tellable
+pub mod Telling
+pub mod RowStays
+pub mod Refusing
+pub mod Called
+pub mod Kept
+pub mod Playing
+pub mod Beginning
+pub mod Linked

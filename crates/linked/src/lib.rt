@@ -1,0 +1,1 @@
+// Theorems only: what a program may rely on that is linked with the exported calls. They are in specs/.
