@@ -25,10 +25,7 @@ fn end_pass(rec: Record) -> CollectorTurn
     if rec.found == 0 {
         return entered(rec, 5);
     }
-    let mut next = rec;
-    next.place = 0;
-    next.found = 0;
-    worked(next)
+    worked(rec, rec.stage, 0, rec.part, rec.hold, 0)
 }
 
 fn scan_place(rec: Record, fields: &[u16], colours: &mut [u8]) -> CollectorTurn
@@ -45,10 +42,7 @@ fn scan_place(rec: Record, fields: &[u16], colours: &mut [u8]) -> CollectorTurn
     if b != 2 {
         return stepped(rec);
     }
-    let mut next = rec;
-    next.part = 1;
-    next.found = 1;
-    worked(next)
+    worked(rec, rec.stage, rec.place, 1, rec.hold, 1)
 }
 
 fn scan_hold(rec: Record, fields: &[u16], colours: &mut [u8]) -> CollectorTurn
@@ -60,10 +54,7 @@ fn scan_hold(rec: Record, fields: &[u16], colours: &mut [u8]) -> CollectorTurn
     if !value_ok(rec.n, v) {
         return stopped(rec, 2);
     }
-    let mut next = rec;
-    next.part = rec.part + 1;
-    next.hold = v;
-    worked(next)
+    worked(rec, rec.stage, rec.place, rec.part + 1, v, rec.found)
 }
 
 fn scan_gray(rec: Record, fields: &[u16], colours: &mut [u8]) -> CollectorTurn
@@ -75,10 +66,7 @@ fn scan_gray(rec: Record, fields: &[u16], colours: &mut [u8]) -> CollectorTurn
         return stopped(rec, 2);
     }
     gray(colours, rec.hold);
-    let mut next = rec;
-    next.part = rec.part + 1;
-    next.hold = NONE;
-    worked(next)
+    worked(rec, rec.stage, rec.place, rec.part + 1, NONE, rec.found)
 }
 
 fn scan_close(rec: Record, fields: &[u16], colours: &mut [u8]) -> CollectorTurn
@@ -87,10 +75,7 @@ fn scan_close(rec: Record, fields: &[u16], colours: &mut [u8]) -> CollectorTurn
     ensures { λ o. ⌜ collected o (now (colours .exit)) ≡ scanClose rec (now (colours .entry)) ⌝ }
 {
     colours[rec.place as usize] = 3;
-    let mut next = rec;
-    next.place = rec.place + 1;
-    next.part = 0;
-    worked(next)
+    worked(rec, rec.stage, rec.place + 1, 0, rec.hold, rec.found)
 }
 
 pub fn scan(rec: Record, fields: &[u16], colours: &mut [u8]) -> CollectorTurn

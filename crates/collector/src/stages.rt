@@ -10,6 +10,7 @@ ghost use Rattle.machine.specs.Turns.{collected};
 use crate::scan::scan;
 use crate::sweep::sweep;
 use crate::turns::entered;
+use crate::turns::left;
 use crate::turns::stepped;
 use crate::turns::stopped;
 use crate::turns::waited;
@@ -24,13 +25,16 @@ use machine::Survey;
 fn opening(rec: Record) -> CollectorTurn
     ensures { λ o. ⌜ o ≡ opening rec ⌝ }
 {
-    let mut next = rec;
-    next.stage = 1;
-    next.count = 1;
-    CollectorTurn {
-        answer: Answer::Worked,
-        rec: next,
-    }
+    left(
+        Answer::Worked,
+        rec,
+        1,
+        rec.place,
+        rec.part,
+        rec.hold,
+        rec.found,
+        1,
+    )
 }
 
 fn waiting(rec: Record, seen: Survey, stage: u8) -> CollectorTurn

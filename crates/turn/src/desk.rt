@@ -1,11 +1,11 @@
 // The desk behind its reference: a row taken out, a row put back, all rows filled, and the statuses seen.
 ghost use mathlib.Core.Path.{_≡_};
-ghost use mathlib.Core.List.{[], _∷_};
 ghost use lib.ListN.{getD, set};
-ghost use Rattle.machine.specs.Choice.{pick, every};
+ghost use Rattle.machine.specs.Choice.{pick};
 ghost use Rattle.machine.specs.Store.{freshRow};
 ghost use Rattle.turn.specs.Lent.{waits, rowsRead, unseen, sees, seen, filled};
 use cells::NONE;
+use cells::range::both;
 use cells::range::status_ok;
 use cells::stage::posted;
 use machine::Job;
@@ -92,15 +92,6 @@ pub fn unseen() -> Survey
         fit: true,
         same: true,
     }
-}
-
-fn both(a: bool, b: bool) -> bool
-    ensures { λ r. ⌜ r ≡ every (a ∷ b ∷ []) ⌝ }
-{
-    if !a {
-        return false;
-    }
-    b
 }
 
 // One row more is seen.

@@ -28,11 +28,12 @@ use Rattle.turn.specs.declared.Started.{Started}
 use Rattle.turn.proofs.Laws.{write-meets, collect-meets, start-meets}
 use Rattle.census.specs.Counting.{censusBy as countedBy}
 use Rattle.census.proofs.Answers.{census-meets}
-use Rattle.turns.specs.Plain.{recordOf, numbersOf, deskOf, rowWords, withRow, answerNumber, isRefused}
+use Rattle.turns.specs.Plain.{recordOf, numbersOf, Standing, deskOf, rowWords, withRow, answerNumber, isRefused}
 use Rattle.turns.specs.Calls.{Lent, lent, storeOf, shaped, Shaped, result, ended, made, allAfter, rowAfter, recordAfter, Told, told}
+use Rattle.turns.specs.PlainLaws.{sizes-exact}
 use Rattle.turns.specs.CallLaws.{shape-fits}
 use Rattle.turns.proofs.Desk.{desk-length}
-use Rattle.turns.specs.Unchanged.{refused-idles, write-still, collect-same, start-still, start-goes}
+use Rattle.turns.specs.Unchanged.{refused-idles, write-still, collect-same, collect-keeps, start-still, start-goes}
 
 -- ---- the shape: t is what `shaped` told, and the test on it was passed
 pub fits : (numbers words : ℕ) (t : Bool) → t ≡ shaped numbers words → not t ≡ false → Shaped numbers words
@@ -112,6 +113,12 @@ module _ (numbers words fs cs : List ℕ) where
         rw (ap (λ (o : Collected). o .colours) turn-is ∙ same .1)
         (refused-end collect recordAfter p (t .answer) after-collect k collect-is e (sym h ∙ on))
 
+    pub collect-stands : (b : Bool) → length numbers ≡ 9 → b ≡ isRefused (t .answer) → b ≡ false → Standing numbers (t .rec)
+    collect-stands b nine h on =
+        let k = collect-keeps rec s fs cs (length words / 16) (ap (λ (o : Collected). isRefused (o .turn .answer)) (sym turn-is) ∙ sym h ∙ on) in
+        let same = ap (λ (o : Collected). o .turn .rec) turn-is in
+        sizes-exact numbers (t .rec) nine (rw rec-is at (k .0)) (ap (λ (r : Record). r .n) same ∙ k .1 ∙ rw rec-is) (ap (λ (r : Record). r .g) same ∙ k .2 ∙ rw rec-is) (ap (λ (r : Record). r .m) same ∙ k .3 ∙ rw rec-is)
+
     pub collect-put : (b : Bool) (k : ℕ) (numbers′ : List ℕ) → b ≡ isRefused (t .answer) → b ≡ false → numbers′ ≡ numbersOf (t .rec) → k ≡ answerNumber (t .answer)
         → result k (lent numbers′ words fs cs′) ≡ made collect recordAfter p
     collect-put b k numbers′ h on d e =
@@ -156,7 +163,7 @@ module _ (numbers words fs cs : List ℕ) where
 
 pub ruleset writes = (write-refused, write-put)
 
-pub ruleset collects = (collect-refused, collect-put)
+pub ruleset collects = (collect-refused, collect-stands, collect-put)
 
 pub ruleset starts = (start-refused, start-put)
 

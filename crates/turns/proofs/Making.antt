@@ -1,9 +1,9 @@
 -- What a conversion makes, of parts that are known by equations.
 use Prim.Native.Nat.{ℕ, _+_}
-use mathlib.Core.Path.{_≡_, refl, ap, _∙_}
+use mathlib.Core.Path.{_≡_, refl, sym, ap, _∙_}
 use mathlib.Core.List.{List, [], _∷_, _++_, append-nil}
 use native.Mathlib.Omega.{arith}
-use lib.ListN.{length, getD, set, drop-of-length-le}
+use lib.ListN.{length, getD, set, take, length-set, drop-of-length-le}
 use lib.Seq.{sets, sets-eq}
 use Rattle.machine.specs.declared.Record.{Record}
 use Rattle.machine.specs.declared.Row.{Row}
@@ -19,7 +19,7 @@ use Rattle.machine.specs.declared.Work.the-variants.{Answering, Storing, Creati
 use Rattle.machine.specs.declared.Report.{Report}
 use Rattle.machine.specs.declared.Report.the-variants.{Counted, Refused}
 use Rattle.turns.specs.declared.plain.Task.{Task}
-use Rattle.turns.specs.Plain.{byteOf, wordOf, holdOf, recordOf, numbersOf, taskWith, planOf, lookOf, jobOf, planNumber, lookNumber, workTask, taskOf, rowOf, wordsWith, wordsOf}
+use Rattle.turns.specs.Plain.{byteOf, wordOf, holdOf, recordOf, numbersOf, Standing, taskWith, planOf, lookOf, jobOf, planNumber, lookNumber, workTask, taskOf, rowOf, wordsWith, wordsOf}
 use Rattle.turns.specs.Calls.{counted, told}
 
 -- ---- a job of its words, and back
@@ -88,22 +88,33 @@ words-of row t e = ap (wordsWith row) e
 
 pub ruleset makes = (answering-of, storing-of, creating-of, idle-task, busy-task, answering-task, storing-task, creating-task, record-of, row-of, words-of)
 
--- ---- all numbers of a list, stored one after the other
-sets-all : (vs l : List ℕ) → length l ≡ length vs → sets l 0 vs ≡ vs
-sets-all vs l e = sets-eq vs l 0 (omega arith) ∙ ap (λ (r : List ℕ). vs ++ r) (drop-of-length-le l {i = 0 + length vs} (omega arith)) ∙ append-nil vs
+-- ---- the numbers of a list from place i on, stored one after the other
+sets-rest : (vs l : List ℕ) (i : ℕ) → length l ≡ i + length vs → sets l i vs ≡ take i l ++ vs
+sets-rest vs l i e =
+    sets-eq vs l i (omega arith) ∙ ap (λ (r : List ℕ). take i l ++ vs ++ r) (drop-of-length-le l {i = i + length vs} (omega arith)) ∙ append-nil (take i l ++ vs)
 
-pub record-put : (l : List ℕ) (rec : Record) → length l ≡ 9
-    → set (set (set (set (set (set (set (set (set l 0 (rec .n)) 1 (rec .g)) 2 (rec .m)) 3 (rec .stage)) 4 (rec .place)) 5 (rec .part)) 6 (rec .hold)) 7 (rec .found)) 8 (rec .count) ≡ numbersOf rec
+pub rest-put : (l : List ℕ) (rec : Record) → Standing l rec
+    → set (set (set (set (set (set l 3 (rec .stage)) 4 (rec .place)) 5 (rec .part)) 6 (rec .hold)) 7 (rec .found)) 8 (rec .count) ≡ numbersOf rec
 unfolding numbersOf
-record-put l rec e = sets-all (numbersOf rec) l e
+rest-put l rec s = sets-rest (rec .stage ∷ rec .place ∷ rec .part ∷ rec .hold ∷ rec .found ∷ rec .count ∷ []) l 3 (s .nine) ∙ rw (s .sizes) refl
+
+pub sizes-put : (l : List ℕ) (rec : Record) → length l ≡ 9 → Standing (set (set (set l 0 (rec .n)) 1 (rec .g)) 2 (rec .m)) rec
+sizes-put l rec e = record {
+  nine = simp length-set e;
+  sizes = ap (take 3) (sets-eq (rec .n ∷ rec .g ∷ rec .m ∷ []) l 0 (omega arith));
+}
+
+pub as-long : (l l′ : List ℕ) (rec : Record) → length l ≡ 9 → l′ ≡ numbersOf rec → length l′ ≡ length l
+unfolding numbersOf
+as-long l l′ rec e p = ap length p ∙ sym e
 
 pub counts-put : (l : List ℕ) (c : Counts) (r : Report) → length l ≡ 6 → r ≡ Counted c
     → counted 16 (set (set (set (set (set (set l 0 (c .free)) 1 (c .white)) 2 (c .gray)) 3 (c .black)) 4 (c .held)) 5 (c .floating)) ≡ told l r
 unfolding told
-counts-put l c r e h = rw h (ap (counted 16) (sets-all (c .free ∷ c .white ∷ c .gray ∷ c .black ∷ c .held ∷ c .floating ∷ []) l e))
+counts-put l c r e h = rw h (ap (counted 16) (sets-rest (c .free ∷ c .white ∷ c .gray ∷ c .black ∷ c .held ∷ c .floating ∷ []) l 0 e))
 
 pub counts-kept : (l : List ℕ) (k : ℕ) (r : Report) → r ≡ Refused k → counted k l ≡ told l r
 unfolding told
 counts-kept l k r h = rw h refl
 
-pub ruleset puts = (record-put, counts-put, counts-kept)
+pub ruleset puts = (rest-put, sizes-put, as-long, counts-put, counts-kept)

@@ -1,6 +1,7 @@
 -- Plain numbers and the machine's types, each made of the other: the record is nine numbers, a row 16 words, an answer a number. A number
 -- that does not fit its type becomes one that is out of range, whatever the others are.
 use Prim.Native.Nat.{ℕ, zero, suc, _+_, _*_, _/_}
+use mathlib.Core.Path.{_≡_}
 use mathlib.Core.List.{List, [], _∷_, _++_}
 use mathlib.Core.Bool.{Bool, true, false}
 use lib.ListN.{length, getD, take, drop}
@@ -53,6 +54,11 @@ recordOf numbers = record {
 unfoldable pub numbersOf : Record → List ℕ
 numbersOf rec =
     rec .n ∷ rec .g ∷ rec .m ∷ rec .stage ∷ rec .place ∷ rec .part ∷ rec .hold ∷ rec .found ∷ rec .count ∷ []
+
+-- a turn writes the last six: n, g and m, the first three, stand as they are
+pub record Standing (numbers : List ℕ) (rec : Record) : Type 0 where
+  pub nine : length numbers ≡ 9
+  pub sizes : take 3 numbers ≡ rec .n ∷ rec .g ∷ rec .m ∷ []
 
 -- ---- a job
 -- its six words: kind, step, cell, at, fresh, old

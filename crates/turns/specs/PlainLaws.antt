@@ -6,7 +6,7 @@ use mathlib.Core.List.{List, [], _∷_}
 use mathlib.Core.Bool.{Bool, true, false}
 use native.Mathlib.Omega.{arith}
 use native.Mathlib.Decide.{decLt}
-use lib.ListN.{length, getD, drop, drop-of-length-le}
+use lib.ListN.{length, getD, take, drop, drop-of-length-le}
 use lib.Seq.{drop-cons}
 use lib.Dec.{ltb, leb, eqb}
 use borrow.Author.Tests.{lt-ltb, le-ltb, ltb-true, leb-true, eqb-true}
@@ -24,7 +24,7 @@ use Rattle.machine.specs.declared.Job.{Job}
 use Rattle.machine.specs.declared.Job.the-variants.{Idle, Busy}
 use Rattle.machine.specs.declared.Work.{Work}
 use Rattle.machine.specs.declared.Work.the-variants.{Answering, Storing, Creating}
-use Rattle.turns.specs.Plain.{byteOf, wordOf, holdOf, recordOf, numbersOf, planOf, lookOf, storingOf, creatingOf, jobOf, planNumber, lookNumber, workTask, taskOf, rowOf, wordsOf}
+use Rattle.turns.specs.Plain.{byteOf, wordOf, holdOf, recordOf, numbersOf, Standing, planOf, lookOf, storingOf, creatingOf, jobOf, planNumber, lookNumber, workTask, taskOf, rowOf, wordsOf}
 
 -- ---- a number that fits
 byte-back : (x : ℕ) → x < 256 → byteOf x ≡ x
@@ -236,3 +236,19 @@ record-exact numbers e limits range =
 
     s : Small (recordOf numbers)
     s = small (recordOf numbers) limits range
+
+-- n, g and m in limits are told by their numbers as they are
+pub sizes-exact : (numbers : List ℕ) (rec : Record) → length numbers ≡ 9 → limitsOk (recordOf numbers .n) (recordOf numbers .g) (recordOf numbers .m) ≡ true
+    → rec .n ≡ recordOf numbers .n → rec .g ≡ recordOf numbers .g → rec .m ≡ recordOf numbers .m → Standing numbers rec
+unfolding recordOf from limitsOk
+sizes-exact numbers rec e limits n g m =
+    let a : wordOf (getD numbers 0 0) ≤ 4096 = leb-true _ _ (hold _ limits .1 .0) in
+    let b : wordOf (getD numbers 1 0) ≤ 16 = leb-true _ _ (hold _ limits .1 .1 .1 .0) in
+    let c : wordOf (getD numbers 2 0) ≤ 8 = leb-true _ _ (hold _ limits .1 .1 .1 .1 .1 .1 .0) in
+    record {
+      nine = e;
+      sizes = sym (ap (take 3) (from-all 9 0 numbers (sym e))) ∙ (λ i. exact 0 n (omega arith) i ∷ exact 1 g (omega arith) i ∷ exact 2 m (omega arith) i ∷ []);
+    }
+  where
+    exact : (k : ℕ) {x : ℕ} → x ≡ wordOf (getD numbers k 0) → wordOf (getD numbers k 0) < 65535 → getD numbers k 0 ≡ x
+    exact k q l = sym (q ∙ word-exact (getD numbers k 0) l)

@@ -4,16 +4,18 @@ use Prim.Native.Nat.{ℕ}
 use mathlib.Core.Path.{_≡_, refl}
 use mathlib.Core.Bool.{Bool, true, false, false≢true, true≢false}
 use mathlib.Core.List.{List, [], _∷_}
+use lib.ListN.{length}
 use lib.Dec.{ltb, eqb}
 use Rattle.machine.specs.Choice.{pick, among}
-use Rattle.machine.specs.ChoiceLaws.{refuse-cases}
-use Rattle.machine.specs.Parts.{colourOf, withPlace, withFound}
+use Rattle.machine.specs.ChoiceLaws.{hold, refuse-cases}
+use Rattle.machine.specs.Limits.{limitsOk, lengthsOk, sizesOk}
+use Rattle.machine.specs.Parts.{colourOf, at, withPlace, withFound}
 use Rattle.machine.specs.Turns.{Written, Collected, collected, worked, waited}
 use Rattle.machine.specs.Answering.{nextAnswering}
 use Rattle.machine.specs.Storing.{storeRead, storeGray, storeWrite, nextStoring}
 use Rattle.machine.specs.Creating.{lowestFree, takeCell, take, create, look, nextCreating}
 use Rattle.machine.specs.Writer.{nextWork, nextJob, next, turnOf}
-use Rattle.machine.specs.Collector.{entering, opening, waiting, marking, endPass, scanPlace, scanHold, scanGray, scanClose, scanning, sweeping, byStage, collectorTurn}
+use Rattle.machine.specs.Collector.{entering, barred, opening, waiting, marking, endPass, scanPlace, scanHold, scanGray, scanClose, scanning, sweeping, byStage, collectorTurn}
 use Rattle.machine.specs.declared.Record.{Record}
 use Rattle.machine.specs.declared.Row.{Row}
 use Rattle.machine.specs.declared.Call.{Call}
@@ -107,7 +109,7 @@ module _ (rec : Record) (row : Row) (fs cs : List ℕ) where
   unfolding writing
   write-still rows w call = refuse-cases Still _ _ _ (λ k e. (refl, refl)) (λ t. still-turn call)
 
--- ---- the collector's turn: one that waits leaves the record too
+-- ---- the collector's turn: one that waits leaves the record too, and every one leaves n, g and m
 abbrev pub idles : Answer → Bool
 idles Done = false
 idles More = false
@@ -123,64 +125,82 @@ refused-idles Worked e = e
 refused-idles Waited e = refl
 refused-idles (Refused k) e = refl
 
+-- what holds of each of its ends holds of it
+module _ (rec : Record) (seen : Survey) (fs cs : List ℕ) (P : Collected → Type 0) (stop : (k : ℕ) → P (barred rec cs k)) (wait : P (collected (waited rec) cs))
+    (work : (stage place part hold found count : ℕ) (cs′ : List ℕ) → P (collected (record { answer = Worked; rec = at rec stage place part hold found count }) cs′)) where
+  one-of : (b : Bool) (x y : Collected) → P x → P y → P (pick b x y)
+  one-of true x y h k = h
+  one-of false x y h k = k
+
+  in-waiting : (next : ℕ) → P (collected (waiting rec seen next) cs)
+  unfolding waiting
+  in-waiting next = refuse-cases (λ (t : CollectorTurn). P (collected t cs)) _ _ _ stop (λ t. go (seen .same))
+    where
+      go : (b : Bool) → P (collected (pick b (worked (entering rec next)) (waited rec)) cs)
+      go true = work _ _ _ _ _ _ _
+      go false = wait
+
+  in-marking : P (marking rec seen cs)
+  unfolding marking
+  in-marking = one-of (ltb (rec .place) (rec .g)) _ _ (refuse-cases P _ _ _ stop (λ t. work _ _ _ _ _ _ _)) (in-waiting 4)
+
+  in-pass : P (collected (endPass rec) cs)
+  unfolding endPass
+  in-pass = go (eqb (rec .found) 0)
+    where
+      go : (b : Bool) → P (collected (pick b (worked (entering rec 5)) (worked (withFound (withPlace rec 0) 0))) cs)
+      go true = work _ _ _ _ _ _ _
+      go false = work _ _ _ _ _ _ _
+
+  in-place : P (scanPlace rec cs)
+  unfolding scanPlace
+  in-place =
+      one-of (ltb (rec .place) (rec .n)) _ _
+      (refuse-cases P _ _ _ stop (λ t. one-of (eqb (colourOf cs (rec .place)) 2) _ _ (work _ _ _ _ _ _ _) (work _ _ _ _ _ _ _))) in-pass
+
+  in-scanning : (part : ℕ) → P (scanning rec fs cs part)
+  unfolding scanning scanHold scanGray scanClose
+  in-scanning part =
+      one-of (eqb part 0) _ _ in-place
+      (one-of (among (1 ∷ 3 ∷ 5 ∷ 7 ∷ []) part) _ _ (refuse-cases P _ _ _ stop (λ t. work _ _ _ _ _ _ _))
+      (one-of (among (2 ∷ 4 ∷ 6 ∷ 8 ∷ []) part) _ _ (refuse-cases P _ _ _ stop (λ t. work _ _ _ _ _ _ _)) (work _ _ _ _ _ _ _)))
+
+  in-sweeping : P (sweeping rec cs)
+  unfolding sweeping
+  in-sweeping = one-of (ltb (rec .place) (rec .n)) _ _ (refuse-cases P _ _ _ stop (λ t. work _ _ _ _ _ _ _)) (work _ _ _ _ _ _ _)
+
+  in-stage : (stage : ℕ) → P (byStage rec seen fs cs stage)
+  unfolding byStage opening
+  in-stage stage =
+      one-of (eqb stage 0) _ _ (work _ _ _ _ _ _ _)
+      (one-of (eqb stage 1) _ _ (in-waiting 2)
+      (one-of (eqb stage 2) _ _ (in-waiting 3)
+      (one-of (eqb stage 3) _ _ in-marking
+      (one-of (eqb stage 4) _ _ (in-scanning (rec .part)) in-sweeping))))
+
+  in-turn : P (collectorTurn rec seen fs cs)
+  unfolding collectorTurn
+  in-turn = refuse-cases P _ _ _ stop (λ t. in-stage (rec .stage))
+
 module _ (rec : Record) (seen : Survey) (fs cs : List ℕ) where
   abbrev Same : Collected → Type 0
   Same o = idles (o .turn .answer) ≡ true → (o .turn .rec ≡ rec) × (o .colours ≡ cs)
 
-  one-of : (b : Bool) (x y : Collected) → Same x → Same y → Same (pick b x y)
-  one-of true x y h k = h
-  one-of false x y h k = k
-
-  same-waiting : (next : ℕ) → Same (collected (waiting rec seen next) cs)
-  unfolding waiting
-  same-waiting next = refuse-cases (λ (t : CollectorTurn). Same (collected t cs)) _ _ _ (λ k e. (refl, refl)) (λ t. go (seen .same))
-    where
-      go : (b : Bool) → Same (collected (pick b (worked (entering rec next)) (waited rec)) cs)
-      go true e = absurd (false≢true e)
-      go false e = (refl, refl)
-
-  same-marking : Same (marking rec seen cs)
-  unfolding marking
-  same-marking = one-of (ltb (rec .place) (rec .g)) _ _ (refuse-cases Same _ _ _ (λ k e. (refl, refl)) (λ t e. absurd (false≢true e))) (same-waiting 4)
-
-  same-pass : Same (collected (endPass rec) cs)
-  unfolding endPass
-  same-pass = go (eqb (rec .found) 0)
-    where
-      go : (b : Bool) → Same (collected (pick b (worked (entering rec 5)) (worked (withFound (withPlace rec 0) 0))) cs)
-      go true e = absurd (false≢true e)
-      go false e = absurd (false≢true e)
-
-  same-place : Same (scanPlace rec cs)
-  unfolding scanPlace
-  same-place =
-      one-of (ltb (rec .place) (rec .n)) _ _
-      (refuse-cases Same _ _ _ (λ k e. (refl, refl)) (λ t. one-of (eqb (colourOf cs (rec .place)) 2) _ _ (λ e. absurd (false≢true e)) (λ e. absurd (false≢true e)))) same-pass
-
-  same-scanning : (part : ℕ) → Same (scanning rec fs cs part)
-  unfolding scanning scanHold scanGray scanClose
-  same-scanning part =
-      one-of (eqb part 0) _ _ same-place
-      (one-of (among (1 ∷ 3 ∷ 5 ∷ 7 ∷ []) part) _ _ (refuse-cases Same _ _ _ (λ k e. (refl, refl)) (λ t e. absurd (false≢true e)))
-      (one-of (among (2 ∷ 4 ∷ 6 ∷ 8 ∷ []) part) _ _ (refuse-cases Same _ _ _ (λ k e. (refl, refl)) (λ t e. absurd (false≢true e))) (λ e. absurd (false≢true e))))
-
-  same-sweeping : Same (sweeping rec cs)
-  unfolding sweeping
-  same-sweeping =
-      one-of (ltb (rec .place) (rec .n)) _ _ (refuse-cases Same _ _ _ (λ k e. (refl, refl)) (λ t e. absurd (false≢true e))) (λ e. absurd (false≢true e))
-
   pub stage-same : (stage : ℕ) → Same (byStage rec seen fs cs stage)
-  unfolding byStage opening
-  stage-same stage =
-      one-of (eqb stage 0) _ _ (λ e. absurd (false≢true e))
-      (one-of (eqb stage 1) _ _ (same-waiting 2)
-      (one-of (eqb stage 2) _ _ (same-waiting 3)
-      (one-of (eqb stage 3) _ _ same-marking
-      (one-of (eqb stage 4) _ _ (same-scanning (rec .part)) same-sweeping))))
+  stage-same = in-stage rec seen fs cs Same (λ k e. (refl, refl)) (λ e. (refl, refl)) (λ stage place part hold found count cs′ e. absurd (false≢true e))
 
   pub collect-same : (rows : ℕ) → Same (collecting rec rows seen fs cs)
   unfolding collecting collectorTurn
   collect-same rows = refuse-cases Same _ _ _ (λ k e. (refl, refl)) (λ t. refuse-cases Same _ _ _ (λ k e. (refl, refl)) (λ u. stage-same (rec .stage)))
+
+  -- not refused, it leaves n, g and m, and they are in limits
+  abbrev Keeps : Collected → Type 0
+  Keeps o = isRefused (o .turn .answer) ≡ false → (limitsOk (rec .n) (rec .g) (rec .m) ≡ true) × (o .turn .rec .n ≡ rec .n) × (o .turn .rec .g ≡ rec .g) × (o .turn .rec .m ≡ rec .m)
+
+  pub collect-keeps : (rows : ℕ) → Keeps (collecting rec rows seen fs cs)
+  unfolding collecting sizesOk isRefused
+  collect-keeps rows = refuse-cases Keeps _ _ _ (λ k e. absurd (true≢false e)) (λ t. let l = hold (limitsOk (rec .n) (rec .g) (rec .m) ∷ lengthsOk (rec .n) (rec .m) rows (length fs) (length cs) ∷ []) (t .0) .0 in
+      in-turn rec seen fs cs Keeps (λ k e. absurd (true≢false e)) (λ e. (l, refl, refl, refl)) (λ stage place part hold found count cs′ e. (l, refl, refl, refl)))
 
 -- ---- start: refused, it leaves fields and colours; else the desk is to be filled
 module _ (n g m : ℕ) (rec : Record) (rows : ℕ) (fs cs : List ℕ) where

@@ -13,6 +13,7 @@ use crate::plain::answer_number;
 use crate::plain::copy_words;
 use crate::plain::is_refused;
 use crate::plain::put_record;
+use crate::plain::put_rest;
 use crate::plain::put_row;
 use crate::plain::record_of;
 use crate::plain::row_at;
@@ -183,7 +184,7 @@ fn collect_shaped(numbers: &mut [u32], desk: &[u16], fields: &[u16], colours: &m
     if is_refused(answer) {
         return answer_number(answer);
     }
-    put_record(numbers, t.rec);
+    put_rest(numbers, t.rec);
     answer_number(answer)
 }
 

@@ -6,7 +6,7 @@ ghost use Prim.Native.Nat.{_+_, _≤_};
 ghost use lib.ListN.{length, getD, take, drop};
 ghost use Rattle.machine.specs.Store.{freshRow};
 ghost use Rattle.machine.specs.declared.Work.{Work};
-ghost use Rattle.turns.specs.Plain.{byteOf, wordOf, holdOf, recordOf, numbersOf, planOf, lookOf, outside, storingOf, creatingOf, jobOf, rowOf, deskOf, planNumber, lookNumber, taskWith, workTask, taskOf, wordsOf, withRow, answerNumber, isRefused};
+ghost use Rattle.turns.specs.Plain.{byteOf, wordOf, holdOf, recordOf, numbersOf, Standing, planOf, lookOf, outside, storingOf, creatingOf, jobOf, rowOf, deskOf, planNumber, lookNumber, taskWith, workTask, taskOf, wordsOf, withRow, answerNumber, isRefused};
 use machine::Answer;
 use machine::Job;
 use machine::Look;
@@ -83,6 +83,19 @@ pub fn record_of(numbers: &[u32]) -> Record
     }
 }
 
+// All but n, g and m, which a turn never changes.
+pub fn put_rest(numbers: &mut [u32], rec: Record)
+    requires { ⌜ Standing (now numbers) rec ⌝ }
+    ensures { λ _. ⌜ now (numbers .exit) ≡ numbersOf rec ⌝ }
+{
+    numbers[3] = rec.stage as u32;
+    numbers[4] = rec.place as u32;
+    numbers[5] = rec.part as u32;
+    numbers[6] = rec.hold as u32;
+    numbers[7] = rec.found as u32;
+    numbers[8] = rec.count;
+}
+
 // The nine numbers are written.
 pub fn put_record(numbers: &mut [u32], rec: Record)
     requires { ⌜ length (now numbers) ≡ 9 ⌝ }
@@ -91,12 +104,7 @@ pub fn put_record(numbers: &mut [u32], rec: Record)
     numbers[0] = rec.n as u32;
     numbers[1] = rec.g as u32;
     numbers[2] = rec.m as u32;
-    numbers[3] = rec.stage as u32;
-    numbers[4] = rec.place as u32;
-    numbers[5] = rec.part as u32;
-    numbers[6] = rec.hold as u32;
-    numbers[7] = rec.found as u32;
-    numbers[8] = rec.count;
+    put_rest(numbers, rec);
 }
 
 // Only called with a number below 8.

@@ -3,13 +3,16 @@ ghost use mathlib.Core.Path.{_≡_};
 ghost use Prim.Native.Nat.{_+_, _*_, _<_, _≤_};
 ghost use lib.ListN.{length};
 ghost use Rattle.cells.specs.Sized.{Sized};
+ghost use Rattle.machine.specs.Choice.{all};
 ghost use Rattle.machine.specs.Creating.{lowestFree, emptied, takeCell, create, decided, look, finished, nextCreating};
 ghost use Rattle.machine.specs.Turns.{written};
+ghost use Rattle.writer.specs.Used.{used, Past};
 use crate::rows::filled;
 use crate::rows::is_idle;
 use crate::rows::refused;
 use crate::rows::with_job;
 use cells::NONE;
+use cells::range::both;
 use cells::range::sound;
 use cells::stage::hand;
 use machine::Answer;
@@ -22,12 +25,51 @@ use machine::Row;
 use machine::Work;
 use machine::WriterTurn;
 
+// The colour of a cell in use.
+fn used(b: u8) -> bool
+    ensures { λ r. ⌜ r ≡ used b ⌝ }
+{
+    if b == 0 {
+        return false;
+    }
+    b <= 3
+}
+
+// All these cells are in use.
+fn all_used(colours: &[u8]) -> bool
+    ensures { λ r. ⌜ r ≡ all used (now (colours .entry)) ⌝ }
+{
+    let mut good = true;
+    let mut i: usize = 0;
+    while i < colours.len() {
+        good = both(good, used(colours[i]));
+        i += 1;
+    }
+    good
+}
+
+// Stretches of 32 cells in use are passed over.
+fn past_used(colours: &[u8]) -> usize
+    requires { ⌜ length (now colours) ≤ 4096 ⌝ }
+    ensures { λ i. ⌜ Past (now (colours .entry)) i ⌝ }
+{
+    let mut i: usize = 0;
+    while i + 32 <= colours.len() {
+        let e = i + 32;
+        if !all_used(&colours[i..e]) {
+            return i;
+        }
+        i = e;
+    }
+    i
+}
+
 // Colours are read upward, to the first free cell.
 fn lowest_free(colours: &[u8]) -> Room
     requires { ⌜ length (now colours) ≤ 4096 ⌝ }
     ensures { λ r. ⌜ r ≡ lowestFree 0 (now (colours .entry)) ⌝ }
 {
-    let mut i: usize = 0;
+    let mut i = past_used(colours);
     while i < colours.len() {
         let b = colours[i];
         if b == 0 {

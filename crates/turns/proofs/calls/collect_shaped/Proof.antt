@@ -15,7 +15,7 @@ collect-shaped-spec =
     (λ c. search needs)
     (λ c. search needs)
     (λ c. search collects depth 10 fits 9000)
-    (λ c κs. search needs)
+    (λ c κs. search collects depth 10 fits 9000)
     (λ c κs. search needs)
     (λ c. search needs)
     (λ c. search needs)

@@ -1,5 +1,3 @@
-use lib.ListN.{length-set}
-use native.Mathlib.Omega.{arith}
 use borrow.Author.Needs.{needs}
 use Rattle.turns.proofs.Making.{puts}
 use Rattle.turns.proofs.plain.put_record.Statement.{statement}
@@ -15,16 +13,6 @@ put-record-spec =
     (λ c. search needs)
     (λ c. search needs)
     (λ c. search needs)
-    (λ c. search needs)
-    (λ c. search needs)
-    (λ c. search needs)
-    (λ c. simp length-set (omega arith))
-    (λ c. search needs)
-    (λ c. simp length-set (omega arith))
-    (λ c. search needs)
-    (λ c. simp length-set (omega arith))
-    (λ c. search needs)
-    (λ c. simp length-set (omega arith))
-    (λ c. simp length-set (omega arith))
-    (λ c. search needs)
-    (λ c. search puts))
+    (λ c κs. search puts)
+    (λ c. search puts)
+    (λ c. search needs))

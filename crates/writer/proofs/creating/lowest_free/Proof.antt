@@ -1,15 +1,14 @@
-use Prim.Native.Nat.{_≤_, _-_}
-use mathlib.Core.Path.{_≡_}
-use lib.ListN.{length, drop}
+use Prim.Native.Nat.{_-_}
+use lib.ListN.{length}
 use borrow.Author.Needs.{needs}
 use Rattle.cells.proofs.Choosing.{picks}
 use Rattle.writer.proofs.Frees.{frees}
-use Rattle.machine.specs.Creating.{lowestFree}
+use Rattle.writer.specs.Used.{Past}
 use Rattle.writer.proofs.creating.lowest_free.Statement.{statement}
 use Rattle.writer.proofs.creating.lowest_free.Tie as tie
 
 abbrev Inv-loop : tie.InvT-loop
-Inv-loop colours i₀ i = (i ≤ length colours) × (lowestFree i (drop i colours) ≡ lowestFree 0 colours)
+Inv-loop colours i₀ i = Past colours i
 
 abbrev μ-loop : tie.MeasureT-loop
 μ-loop colours i₀ i = length colours - i
@@ -20,6 +19,7 @@ lowest-free-spec =
     (tie.spec
     Inv-loop
     μ-loop
+    (λ c κs. search needs)
     (λ c. search needs)
     (λ c. search needs)
     (λ c. search needs)
