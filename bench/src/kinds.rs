@@ -29,6 +29,27 @@ trait Batch {
     fn make<M: Machine>(parts: &mut Parts) -> u64;
 }
 
+/// A kind of call: measured against plain Rust, or its batch made once on one machine.
+struct Kind {
+    name: &'static str,
+    measure: fn(&str),
+    proved: fn() -> u64,
+    plain: fn() -> u64,
+}
+
+fn kind<B: Batch>(name: &'static str) -> Kind {
+    Kind {
+        name,
+        measure: measure::<B>,
+        proved: once::<B, Proved>,
+        plain: once::<B, Reference<0>>,
+    }
+}
+
+fn once<B: Batch, M: Machine>() -> u64 {
+    B::make::<M>(&mut B::before())
+}
+
 fn measure<B: Batch>(name: &str) {
     let before = B::before();
     let pair = both(
@@ -195,25 +216,43 @@ batch!(Census, chained(), 100, M, parts, 1, {
     black_box(M::census(lent, counts));
 });
 
+fn kinds() -> [Kind; 19] {
+    [
+        kind::<Start>("start"),
+        kind::<Page>("page"),
+        kind::<Copy>("copy"),
+        kind::<Drop>("drop"),
+        kind::<Read>("read"),
+        kind::<Bare>("store at rest, 2 turns"),
+        kind::<Traced>("store at status 0 in stage 4, 4 turns"),
+        kind::<Full>("store at status 1, 5 turns"),
+        kind::<Create>("create, 3 turns"),
+        kind::<CreateLast>("create of cell 4,095 of 4,096, 3 turns"),
+        kind::<AnswerOnce>("answer to posted 1"),
+        kind::<AnswerSlots>("answer to posted 0, 10 turns"),
+        kind::<Refused>("next without a job, refused 5"),
+        kind::<Waits>("collect, waiting for 8 writers"),
+        kind::<Marks>("collect, marking pages"),
+        kind::<Scans>("collect, scan past white cells, N 4,096"),
+        kind::<Opens>("collect, scan of gray cells, N 4,096"),
+        kind::<Sweeps>("collect, sweep, N 4,096"),
+        kind::<Census>("census, all held, N 4,096"),
+    ]
+}
+
 pub fn table() {
     head("turns by kind of call (N 64 unless said)", "turns");
-    measure::<Start>("start");
-    measure::<Page>("page");
-    measure::<Copy>("copy");
-    measure::<Drop>("drop");
-    measure::<Read>("read");
-    measure::<Bare>("store at rest, 2 turns");
-    measure::<Traced>("store at status 0 in stage 4, 4 turns");
-    measure::<Full>("store at status 1, 5 turns");
-    measure::<Create>("create, 3 turns");
-    measure::<CreateLast>("create of cell 4,095 of 4,096, 3 turns");
-    measure::<AnswerOnce>("answer to posted 1");
-    measure::<AnswerSlots>("answer to posted 0, 10 turns");
-    measure::<Refused>("next without a job, refused 5");
-    measure::<Waits>("collect, waiting for 8 writers");
-    measure::<Marks>("collect, marking pages");
-    measure::<Scans>("collect, scan past white cells, N 4,096");
-    measure::<Opens>("collect, scan of gray cells, N 4,096");
-    measure::<Sweeps>("collect, sweep, N 4,096");
-    measure::<Census>("census, all held, N 4,096");
+    for kind in kinds() {
+        (kind.measure)(kind.name);
+    }
+}
+
+/// Makes the turns of one kind on one machine, for a program that counts instructions.
+pub fn one(name: &str, machine: &str) -> Option<u64> {
+    let kind = kinds().into_iter().find(|kind| kind.name == name)?;
+    match machine {
+        "proved" => Some((kind.proved)()),
+        "plain" => Some((kind.plain)()),
+        _ => None,
+    }
 }

@@ -6,8 +6,26 @@ mod kinds;
 mod lines;
 mod timing;
 
+use std::env;
+use std::process::exit;
+
 fn main() {
-    kinds::table();
-    cycles::table();
-    lines::table();
+    let given: Vec<String> = env::args().skip(1).collect();
+    match given.as_slice() {
+        [] => {
+            kinds::table();
+            cycles::table();
+            lines::table();
+        }
+        [kind, machine] => match kinds::one(kind, machine) {
+            Some(turns) => println!("{turns} turns"),
+            None => usage(),
+        },
+        _ => usage(),
+    }
+}
+
+fn usage() {
+    eprintln!("bench: the tables. bench KIND proved, bench KIND plain: the turns of one kind, as the table names it");
+    exit(2);
 }
