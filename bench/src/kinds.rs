@@ -92,39 +92,39 @@ fn at_stage(mut parts: Parts, stage: u32, status: u16) -> Parts {
     parts
 }
 
-/// In the scan or the sweep of the largest store, all cells of one colour.
-fn coloured(stage: u32, colour: u8) -> Parts {
-    let mut parts = at_stage(store::<Reference<0>>(4096, 8), stage, 0);
+/// In the scan or the sweep, all cells of one colour.
+pub fn coloured(n: u32, stage: u32, colour: u8) -> Parts {
+    let mut parts = at_stage(store::<Reference<0>>(n, 8), stage, 0);
     parts.colours.fill(colour);
     parts
 }
 
-/// The largest store with all cells but the last in use.
-fn nearly_full() -> Parts {
-    let mut parts = store::<Reference<0>>(4096, 8);
+/// All cells but the last in use.
+pub fn nearly_full(n: u32) -> Parts {
+    let mut parts = store::<Reference<0>>(n, 8);
     parts.colours.fill(1);
-    parts.colours[4095] = 0;
+    parts.colours[n as usize - 1] = 0;
     parts
 }
 
-/// The largest store with every cell held: each is in a field of the one before it.
-fn chained() -> Parts {
-    let mut parts = store::<Reference<0>>(4096, 8);
+/// Every cell held: each is in a field of the one before it.
+pub fn chained(n: u32) -> Parts {
+    let mut parts = store::<Reference<0>>(n, 8);
     parts.colours.fill(1);
-    for cell in 0..4095 {
+    for cell in 0..n as usize - 1 {
         parts.fields[4 * cell] = cell as u16 + 1;
     }
     parts
 }
 
-fn collects<M: Machine>(parts: &mut Parts, turns: u64) {
+pub fn collects<M: Machine>(parts: &mut Parts, turns: u64) {
     for _ in 0..turns {
         black_box(M::collect(parts.lend().0));
     }
 }
 
 /// A creation; its cell is then free again.
-fn creates<M: Machine>(parts: &mut Parts) {
+pub fn creates<M: Machine>(parts: &mut Parts) {
     black_box(M::create(parts.lend().0, 0, 1));
     let cell = parts.desk[11];
     M::next(parts.lend().0, 0);
@@ -168,7 +168,7 @@ batch!(Full, at_stage(at_rest(), 1, 1), TIMES, M, parts, 5, {
 batch!(Create, at_rest(), TIMES, M, parts, 3, {
     creates::<M>(parts)
 });
-batch!(CreateLast, nearly_full(), 2000, M, parts, 3, {
+batch!(CreateLast, nearly_full(4096), 2000, M, parts, 3, {
     creates::<M>(parts)
 });
 batch!(AnswerOnce, at_stage(at_rest(), 1, 1), TIMES, M, parts, 1, {
@@ -200,18 +200,18 @@ batch!(Marks, at_stage(at_rest(), 3, 2), 2000, M, parts, 16, {
     collects::<M>(parts, 16);
     parts.record[PLACE] = 0;
 });
-batch!(Scans, coloured(4, 1), 10, M, parts, 4096, {
+batch!(Scans, coloured(4096, 4, 1), 10, M, parts, 4096, {
     collects::<M>(parts, 4096);
     parts.record[PLACE] = 0;
 });
-batch!(Opens, coloured(4, 2), 1, M, parts, 10 * 4096, {
+batch!(Opens, coloured(4096, 4, 2), 1, M, parts, 10 * 4096, {
     collects::<M>(parts, 10 * 4096)
 });
-batch!(Sweeps, coloured(5, 3), 10, M, parts, 4096, {
+batch!(Sweeps, coloured(4096, 5, 3), 10, M, parts, 4096, {
     collects::<M>(parts, 4096);
     parts.record[PLACE] = 0;
 });
-batch!(Census, chained(), 100, M, parts, 1, {
+batch!(Census, chained(4096), 100, M, parts, 1, {
     let (lent, counts) = parts.lend();
     black_box(M::census(lent, counts));
 });

@@ -2,6 +2,7 @@
 //! proved library's time over plain Rust's.
 
 mod cycles;
+mod growth;
 mod kinds;
 mod lines;
 mod timing;
@@ -15,6 +16,7 @@ fn main() {
         [] => {
             kinds::table();
             cycles::table();
+            growth::table();
             lines::table();
         }
         [kind, machine] => match kinds::one(kind, machine) {
