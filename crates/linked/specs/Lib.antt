@@ -1,7 +1,6 @@
 pub mod Desk
 pub mod Tellable
 pub mod Telling
-pub mod RowStays
 pub mod Refusing
 pub mod Called
 pub mod Kept

@@ -21,25 +21,23 @@ use Rattle.machine.specs.declared.Answer.{Answer}
 use Rattle.turn.specs.Lent.{writing}
 use Rattle.turns.specs.Plain.{isRefused}
 use Rattle.turns.specs.Unchanged.{refused-idles, write-still, stage-same}
-use Rattle.linked.specs.RowStays.{row-stays}
 
 module _ (st : Store) where
   -- an outcome that leaves the store if it is refused
   abbrev Left : Outcome Answer → Type 0
   Left o = isRefused (o .answer) ≡ true → o .store ≡ st
 
-  -- a writer's turn leaves fields and colours (`write-still`, where the tests before the turn hold)
+  -- a writer's turn leaves its row, fields and colours (`write-still`, where the tests before the turn hold)
   turn-still : (w : ℕ) (call : Call) (o : Written) → o ≡ turnOf (st .rec) (rowOf st w) (st .fields) (st .colours) call → fitsRecord st ≡ true → ltb w (st .rec .m) ≡ true
-      → isRefused (o .turn .answer) ≡ true → (o .fields ≡ st .fields) × (o .colours ≡ st .colours)
+      → isRefused (o .turn .answer) ≡ true → (o .turn .row ≡ rowOf st w) × (o .fields ≡ st .fields) × (o .colours ≡ st .colours)
   unfolding writing fits refuse
   turn-still w call o q e d = rw q (rw (e, d) at (write-still (st .rec) (rowOf st w) (st .fields) (st .colours) (length (st .desk)) w call))
 
   write-left : (w : ℕ) (call : Call) → Left (write w call st)
   unfolding write
   write-left w call = refuse-cases Left _ _ _ (λ k e. refl) (λ t e.
-      let row = row-stays (st .rec) (rowOf st w) (st .fields) (st .colours) call e in
-      let rest = turn-still w call _ refl (t .0) (t .1 .0) e in
-      (λ i. parts (st .rec) (set (st .desk) w (row i)) (rest .0 i) (rest .1 i)) ∙ ap (λ (d : List Row). parts (st .rec) d (st .fields) (st .colours)) (set-getD (st .desk) w freshRow))
+      let same = turn-still w call _ refl (t .0) (t .1 .0) e in
+      (λ i. parts (st .rec) (set (st .desk) w (same .0 i)) (same .1 i) (same .2 i)) ∙ ap (λ (d : List Row). parts (st .rec) d (st .fields) (st .colours)) (set-getD (st .desk) w freshRow))
 
   collect-left : Left (collect st)
   unfolding collect collectorTurn

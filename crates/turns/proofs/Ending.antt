@@ -87,7 +87,7 @@ module _ (numbers words fs cs : List ℕ) where
         → result k (lent numbers words fs′ cs′) ≡ made (write w call) (rowAfter w) p
     write-refused b k h on e =
         let same = write-still rec row fs cs (length words / 16) w call (ap (λ (o : Written). isRefused (o .turn .answer)) (sym turn-is) ∙ sym h ∙ on) in
-        rw (ap (λ (o : Written). o .fields) turn-is ∙ same .0, ap (λ (o : Written). o .colours) turn-is ∙ same .1)
+        rw (ap (λ (o : Written). o .fields) turn-is ∙ same .1, ap (λ (o : Written). o .colours) turn-is ∙ same .2)
         (refused-end (write w call) (rowAfter w) p (t .answer) after-write k write-is e (sym h ∙ on))
 
     pub write-put : (b : Bool) (k : ℕ) (words′ : List ℕ) → b ≡ isRefused (t .answer) → b ≡ false → words′ ≡ withRow words w (t .row) → k ≡ answerNumber (t .answer)

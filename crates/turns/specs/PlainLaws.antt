@@ -154,25 +154,26 @@ by-test : (b x y : Bool) → pick b x y ≡ true → ((b ≡ true) × (x ≡ tru
 by-test true x y e = inl (refl, e)
 by-test false x y e = inr e
 
+-- the numbers of a record in range within limits are small; the count is not asked for
 module _ (rec : Record) where
-  record Small : Type 0 where
-    n : rec .n ≤ 4096
-    g : rec .g ≤ 16
-    m : rec .m ≤ 8
-    stage : rec .stage ≤ 5
-    place : rec .place ≤ 4096
-    part : rec .part ≤ 9
-    hold : rec .hold ≡ 65534 → ⊥
-    found : rec .found ≤ 1
+  pub record Small : Type 0 where
+    pub n : rec .n ≤ 4096
+    pub g : rec .g ≤ 16
+    pub m : rec .m ≤ 8
+    pub stage : rec .stage ≤ 5
+    pub place : rec .place ≤ 4096
+    pub part : rec .part ≤ 9
+    pub hold : (rec .hold ≡ none) ⊎ (rec .hold < 4096)
+    pub found : rec .found ≤ 1
 
-  module _ (limits : limitsOk (rec .n) (rec .g) (rec .m) ≡ true) (range : recordOk rec ≡ true) where
+  module _ (limits : limitsOk (rec .n) (rec .g) (rec .m) ≡ true) (stages : leb (rec .stage) 5 ≡ true) (places : placeOk rec ≡ true) (parts : partOk rec ≡ true) (holds : holdOk rec ≡ true) (founds : foundOk rec ≡ true) where
     n-small : rec .n ≤ 4096
     unfolding limitsOk
     n-small = leb-true _ _ (hold _ limits .1 .0)
 
     place-small : rec .place ≤ 4096
-    unfolding limitsOk recordOk placeOk
-    place-small = go (by-test _ _ _ (hold _ range .1 .0))
+    unfolding limitsOk placeOk
+    place-small = go (by-test _ _ _ places)
       where
         late : ((eqb (rec .stage) 3 ≡ true) × (leb (rec .place) (rec .g) ≡ true)) ⊎ (leb (rec .place) (rec .n) ≡ true) → rec .place ≤ 4096
         late (inl h) = omega (arith, leb-true (rec .place) (rec .g) (h .1), leb-true (rec .g) 16 (hold _ limits .1 .1 .1 .0))
@@ -183,59 +184,63 @@ module _ (rec : Record) where
         go (inr h) = late (by-test _ _ _ h)
 
     part-small : rec .part ≤ 9
-    unfolding recordOk partOk
-    part-small = go (by-test _ _ _ (hold _ range .1 .1 .0))
+    unfolding partOk
+    part-small = go (by-test _ _ _ parts)
       where
         go : ((eqb (rec .part) 0 ≡ true) × (true ≡ true)) ⊎ (every (eqb (rec .stage) 4 ∷ ltb (rec .place) (rec .n) ∷ leb (rec .part) 9 ∷ []) ≡ true) → rec .part ≤ 9
         go (inl h) = omega (arith, eqb-true (rec .part) 0 (h .0))
         go (inr h) = leb-true _ _ (hold _ h .1 .1 .0)
 
-    hold-in : rec .hold ≡ 65534 → ⊥
-    unfolding recordOk holdOk valueOk
-    hold-in q = go (by-test _ _ _ (hold _ range .1 .1 .1 .0))
+    hold-small : (rec .hold ≡ none) ⊎ (rec .hold < 4096)
+    unfolding holdOk valueOk
+    hold-small = go (by-test _ _ _ holds)
       where
-        value : ((eqb (rec .hold) none ≡ true) × (true ≡ true)) ⊎ (ltb (rec .hold) (rec .n) ≡ true) → ⊥
-        value (inl h) = omega (arith, eqb-true (rec .hold) none (h .0))
-        value (inr h) = omega (arith, ltb-true (rec .hold) (rec .n) h, n-small)
+        value : ((eqb (rec .hold) none ≡ true) × (true ≡ true)) ⊎ (ltb (rec .hold) (rec .n) ≡ true) → (rec .hold ≡ none) ⊎ (rec .hold < 4096)
+        value (inl h) = inl (eqb-true (rec .hold) none (h .0))
+        value (inr h) = inr (omega (arith, ltb-true (rec .hold) (rec .n) h, n-small))
 
-        go : ((among (2 ∷ 4 ∷ 6 ∷ 8 ∷ []) (rec .part) ≡ true) × (pick (eqb (rec .hold) none) true (ltb (rec .hold) (rec .n)) ≡ true)) ⊎ (eqb (rec .hold) none ≡ true) → ⊥
+        go : ((among (2 ∷ 4 ∷ 6 ∷ 8 ∷ []) (rec .part) ≡ true) × (pick (eqb (rec .hold) none) true (ltb (rec .hold) (rec .n)) ≡ true)) ⊎ (eqb (rec .hold) none ≡ true) → (rec .hold ≡ none) ⊎ (rec .hold < 4096)
         go (inl h) = value (by-test _ _ _ (h .1))
-        go (inr h) = omega (arith, eqb-true (rec .hold) none h)
+        go (inr h) = inl (eqb-true (rec .hold) none h)
 
     found-small : rec .found ≤ 1
-    unfolding recordOk foundOk
-    found-small = go (by-test _ _ _ (hold _ range .1 .1 .1 .1 .0))
+    unfolding foundOk
+    found-small = go (by-test _ _ _ founds)
       where
         go : ((eqb (rec .found) 0 ≡ true) × (true ≡ true)) ⊎ (every (eqb (rec .found) 1 ∷ eqb (rec .stage) 4 ∷ []) ≡ true) → rec .found ≤ 1
         go (inl h) = omega (arith, eqb-true (rec .found) 0 (h .0))
         go (inr h) = omega (arith, eqb-true (rec .found) 1 (hold _ h .0))
 
-    small : Small
-    unfolding limitsOk recordOk
+    pub small : Small
+    unfolding limitsOk
     small = record {
       n = n-small;
       g = leb-true _ _ (hold _ limits .1 .1 .1 .0);
       m = leb-true _ _ (hold _ limits .1 .1 .1 .1 .1 .1 .0);
-      stage = leb-true _ _ (hold _ range .0);
+      stage = leb-true _ _ stages;
       place = place-small;
       part = part-small;
-      hold = hold-in;
+      hold = hold-small;
       found = found-small;
     }
 
 pub record-exact : (numbers : List ℕ) → length numbers ≡ 9 → limitsOk (recordOf numbers .n) (recordOf numbers .g) (recordOf numbers .m) ≡ true → recordOk (recordOf numbers) ≡ true
     → numbersOf (recordOf numbers) ≡ numbers
-unfolding recordOf numbersOf from
+unfolding recordOf numbersOf recordOk from
 record-exact numbers e limits range =
     (λ i. word-exact (at 0) (omega (arith, s .n)) i ∷ word-exact (at 1) (omega (arith, s .g)) i ∷ word-exact (at 2) (omega (arith, s .m)) i ∷ byte-exact (at 3) (omega (arith, s .stage)) i
-    ∷ word-exact (at 4) (omega (arith, s .place)) i ∷ byte-exact (at 5) (omega (arith, s .part)) i ∷ hold-exact (at 6) (s .hold) i ∷ byte-exact (at 7) (omega (arith, s .found)) i ∷ at 8 ∷ [])
+    ∷ word-exact (at 4) (omega (arith, s .place)) i ∷ byte-exact (at 5) (omega (arith, s .part)) i ∷ hold-exact (at 6) (not-held (s .hold)) i ∷ byte-exact (at 7) (omega (arith, s .found)) i ∷ at 8 ∷ [])
     ∙ from-all 9 0 numbers (sym e)
   where
     at : ℕ → ℕ
     at k = getD numbers k 0
 
     s : Small (recordOf numbers)
-    s = small (recordOf numbers) limits range
+    s = let r = hold _ range in small (recordOf numbers) limits (r .0) (r .1 .0) (r .1 .1 .0) (r .1 .1 .1 .0) (r .1 .1 .1 .1 .0)
+
+    not-held : (holdOf (at 6) ≡ none) ⊎ (holdOf (at 6) < 4096) → holdOf (at 6) ≡ 65534 → ⊥
+    not-held (inl h) q = omega arith
+    not-held (inr h) q = omega arith
 
 -- n, g and m in limits are told by their numbers as they are
 pub sizes-exact : (numbers : List ℕ) (rec : Record) → length numbers ≡ 9 → limitsOk (recordOf numbers .n) (recordOf numbers .g) (recordOf numbers .m) ≡ true

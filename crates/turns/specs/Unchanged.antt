@@ -1,18 +1,20 @@
--- "A refusal returns its number and nothing else changes": a turn by value that is refused leaves fields and
--- colours, and one of the collector that waits leaves everything.
+-- "A refusal returns its number and nothing else changes": a turn by value that is refused leaves the row, or the record, with fields and
+-- colours, and so does one of the collector that waits.
 use Prim.Native.Nat.{ℕ}
 use mathlib.Core.Path.{_≡_, refl}
 use mathlib.Core.Bool.{Bool, true, false, false≢true, true≢false}
 use mathlib.Core.List.{List, [], _∷_}
 use lib.ListN.{length}
 use lib.Dec.{ltb, eqb}
-use Rattle.machine.specs.Choice.{pick, among}
+use Rattle.machine.specs.Choice.{pick, among, refuse}
 use Rattle.machine.specs.ChoiceLaws.{hold, refuse-cases}
 use Rattle.machine.specs.Limits.{limitsOk, lengthsOk, sizesOk}
 use Rattle.machine.specs.Parts.{colourOf, at, withPlace, withFound}
-use Rattle.machine.specs.Turns.{Written, Collected, collected, worked, waited}
-use Rattle.machine.specs.Answering.{nextAnswering}
-use Rattle.machine.specs.Storing.{storeRead, storeGray, storeWrite, nextStoring}
+use Rattle.machine.specs.Stage.{posted}
+use Rattle.machine.specs.Turns.{Written, written, refused, Collected, collected, worked, waited}
+use Rattle.machine.specs.Slots.{page, copy, drop, read, readCell}
+use Rattle.machine.specs.Answering.{answerTo, answer, nextAnswering}
+use Rattle.machine.specs.Storing.{storeCell, storeSlots, store, storeRead, storeGray, storeWrite, nextStoring}
 use Rattle.machine.specs.Creating.{lowestFree, takeCell, take, create, look, nextCreating}
 use Rattle.machine.specs.Writer.{nextWork, nextJob, next, turnOf}
 use Rattle.machine.specs.Collector.{entering, barred, opening, waiting, marking, endPass, scanPlace, scanHold, scanGray, scanClose, scanning, sweeping, byStage, collectorTurn}
@@ -21,6 +23,7 @@ use Rattle.machine.specs.declared.Row.{Row}
 use Rattle.machine.specs.declared.Call.{Call}
 use Rattle.machine.specs.declared.Answer.{Answer}
 use Rattle.machine.specs.declared.Answer.the-variants.{Done, More, Worked, Waited, Refused}
+use Rattle.machine.specs.declared.WriterTurn.{WriterTurn}
 use Rattle.machine.specs.declared.CollectorTurn.{CollectorTurn}
 use Rattle.machine.specs.declared.Stored.{Stored}
 use Rattle.machine.specs.declared.Made.{Made}
@@ -32,82 +35,93 @@ use Rattle.machine.specs.declared.Room.{Room}
 use Rattle.machine.specs.declared.Room.the-variants.{Free, Full, Bad}
 use Rattle.machine.specs.declared.Job.{Job}
 use Rattle.machine.specs.declared.Job.the-variants.{Idle, Busy}
-use Rattle.machine.specs.declared.Work.{Work}
 use Rattle.machine.specs.declared.Work.the-variants.{Answering, Storing, Creating}
 use Rattle.machine.specs.declared.Survey.{Survey}
 use Rattle.turn.specs.Lent.{writing, collecting, Begun, beginning}
 use Rattle.turns.specs.Plain.{isRefused}
 
 -- ---- a writer's turn
-module _ (rec : Record) (row : Row) (fs cs : List ℕ) where
-  abbrev Still : Written → Type 0
-  Still o = isRefused (o .turn .answer) ≡ true → (o .fields ≡ fs) × (o .colours ≡ cs)
+-- by a test
+either : {A : Type 0} (P : A → Type 0) (b : Bool) (x y : A) → P x → P y → P (pick b x y)
+either P true x y h k = h
+either P false x y h k = k
 
-  -- by a test
-  either : (b : Bool) (x y : Written) → Still x → Still y → Still (pick b x y)
-  either true x y h k = h
-  either false x y h k = k
+module _ (rec : Record) (row : Row) (fs cs : List ℕ) where
+  -- a turn that leaves the row if it is refused; and fields and colours too
+  abbrev Stays : WriterTurn → Type 0
+  Stays t = isRefused (t .answer) ≡ true → t .row ≡ row
+
+  abbrev Still : Written → Type 0
+  Still o = isRefused (o .turn .answer) ≡ true → (o .turn .row ≡ row) × (o .fields ≡ fs) × (o .colours ≡ cs)
+
+  -- a turn that is not refused
+  goes-on : {A : Type 0} → false ≡ true → A
+  goes-on e = absurd (false≢true e)
+
+  -- a turn behind tests, which may refuse it
+  tested : (ts : List (Bool × ℕ)) (t : WriterTurn) → Stays t → Stays (refuse (refused row) ts t)
+  tested ts t h = refuse-cases Stays _ ts t (λ k e. refl) (λ _. h)
+
+  tested-in : (ts : List (Bool × ℕ)) (o : Written) → Still o → Still (refuse (λ k. written (refused row k) fs cs) ts o)
+  tested-in ts o h = refuse-cases Still _ ts o (λ k e. (refl, refl, refl)) (λ _. h)
+
+  stays-answer : Stays (answer rec row)
+  unfolding answer answerTo isRefused
+  stays-answer = tested _ _ (tested _ _ (either Stays (eqb (posted (rec .stage)) 0) _ _ goes-on goes-on))
 
   still-take : (s : ℕ) (r : Room) → Still (take row fs cs s r)
   unfolding take takeCell isRefused
-  still-take s (Free n) e = absurd (false≢true e)
-  still-take s Full e = (refl, refl)
-  still-take s Bad e = (refl, refl)
-
-  still-gray : (v : ℕ) (s : Stored) (p : Plan) → Still (storeGray row fs cs v s p)
-  unfolding storeGray isRefused
-  still-gray v s p = refuse-cases Still _ _ _ (λ k e. (refl, refl)) (λ t e. absurd (false≢true e))
-
-  still-read : (s : Stored) (p : Plan) → Still (storeRead (rec .n) row fs cs s p)
-  unfolding storeRead
-  still-read s p = refuse-cases Still _ _ _ (λ k e. (refl, refl)) (λ t e. (refl, refl))
-
-  still-write : (s : Stored) → Still (storeWrite row fs cs s)
-  unfolding storeWrite isRefused
-  still-write s e = absurd (false≢true e)
+  still-take s (Free n) = goes-on
+  still-take s Full = λ e. (refl, refl, refl)
+  still-take s Bad = λ e. (refl, refl, refl)
 
   still-storing : (s : Stored) (p : Plan) → Still (nextStoring (rec .n) row fs cs s p)
-  unfolding nextStoring
-  still-storing s FullRead = still-read s FullOld
-  still-storing s FullOld = still-gray (s .old) s FullNew
-  still-storing s FullNew = still-gray (s .new) s FullWrite
-  still-storing s FullWrite = still-write s
-  still-storing s TracedRead = still-read s TracedOld
-  still-storing s TracedOld = still-gray (s .old) s TracedWrite
-  still-storing s TracedWrite = still-write s
-  still-storing s BareWrite = still-write s
+  unfolding nextStoring storeRead storeGray storeWrite isRefused
+  still-storing s FullRead = tested-in _ _ goes-on
+  still-storing s FullOld = tested-in _ _ goes-on
+  still-storing s FullNew = tested-in _ _ goes-on
+  still-storing s FullWrite = goes-on
+  still-storing s TracedRead = tested-in _ _ goes-on
+  still-storing s TracedOld = tested-in _ _ goes-on
+  still-storing s TracedWrite = goes-on
+  still-storing s BareWrite = goes-on
 
   still-creating : (m : Made) (l : Look) → Still (nextCreating rec row fs cs m l)
-  unfolding nextCreating isRefused
-  still-creating m Ahead e = (refl, refl)
-  still-creating m Keep e = (refl, refl)
-  still-creating m White e = absurd (false≢true e)
+  unfolding nextCreating look isRefused
+  still-creating m Ahead = goes-on
+  still-creating m Keep = goes-on
+  still-creating m White = goes-on
 
-  still-work : (w : Work) → Still (nextWork rec row fs cs w)
-  unfolding nextWork nextAnswering isRefused
-  still-work (Answering k) = either (ltb k 8) _ _ (refuse-cases Still _ _ _ (λ k e. (refl, refl)) (λ t e. absurd (false≢true e))) (λ e. (refl, refl))
-  still-work (Storing s p) = still-storing s p
-  still-work (Creating m) = still-creating m (m .look)
+  still-answering : (k : ℕ) → Still (nextAnswering row fs cs k)
+  unfolding nextAnswering isRefused
+  still-answering k = either Still (ltb k 8) _ _ (tested-in _ _ goes-on) goes-on
 
   still-job : (j : Job) → Still (nextJob rec row fs cs j)
-  unfolding nextJob
-  still-job Idle = λ e. (refl, refl)
-  still-job (Busy w) = still-work w
+  unfolding nextJob nextWork
+  still-job Idle = λ e. (refl, refl, refl)
+  still-job (Busy (Answering k)) = still-answering k
+  still-job (Busy (Storing s p)) = still-storing s p
+  still-job (Busy (Creating m)) = still-creating m (m .look)
 
+  -- a turn of the row alone
+  of-row : (call : Call) → Stays (turnOf rec row fs cs call .turn) → turnOf rec row fs cs call .fields ≡ fs → turnOf rec row fs cs call .colours ≡ cs → Still (turnOf rec row fs cs call)
+  of-row call h f c e = (h e, f, c)
+
+  -- any call's
   still-turn : (call : Call) → Still (turnOf rec row fs cs call)
-  unfolding turnOf create next
-  still-turn (Call.Page p s) = λ e. (refl, refl)
-  still-turn (Call.Copy r s) = λ e. (refl, refl)
-  still-turn (Call.Drop r) = λ e. (refl, refl)
-  still-turn (Call.Read r f s) = λ e. (refl, refl)
-  still-turn (Call.Store r f q) = λ e. (refl, refl)
-  still-turn (Call.Create s) = refuse-cases Still _ _ _ (λ k e. (refl, refl)) (λ t. still-take s (lowestFree 0 cs))
-  still-turn Call.Answer = λ e. (refl, refl)
-  still-turn Call.Next = refuse-cases Still _ _ _ (λ k e. (refl, refl)) (λ t. still-job (row .job))
+  unfolding turnOf page copy drop read readCell store storeSlots storeCell create next isRefused
+  still-turn (Call.Page p s) = of-row (Call.Page p s) (tested _ _ goes-on) refl refl
+  still-turn (Call.Copy r s) = of-row (Call.Copy r s) (tested _ _ goes-on) refl refl
+  still-turn (Call.Drop r) = of-row (Call.Drop r) (tested _ _ goes-on) refl refl
+  still-turn (Call.Read r f s) = of-row (Call.Read r f s) (tested _ _ (tested _ _ goes-on)) refl refl
+  still-turn (Call.Store r f q) = of-row (Call.Store r f q) (tested _ _ (tested _ _ goes-on)) refl refl
+  still-turn (Call.Create s) = tested-in _ _ (still-take s (lowestFree 0 cs))
+  still-turn Call.Answer = of-row Call.Answer stays-answer refl refl
+  still-turn Call.Next = tested-in _ _ (still-job (row .job))
 
   pub write-still : (rows w : ℕ) (call : Call) → Still (writing rec rows w row fs cs call)
   unfolding writing
-  write-still rows w call = refuse-cases Still _ _ _ (λ k e. (refl, refl)) (λ t. still-turn call)
+  write-still rows w call = tested-in _ _ (still-turn call)
 
 -- ---- the collector's turn: one that waits leaves the record too, and every one leaves n, g and m
 abbrev pub idles : Answer → Bool
@@ -128,10 +142,6 @@ refused-idles (Refused k) e = refl
 -- what holds of each of its ends holds of it
 module _ (rec : Record) (seen : Survey) (fs cs : List ℕ) (P : Collected → Type 0) (stop : (k : ℕ) → P (barred rec cs k)) (wait : P (collected (waited rec) cs))
     (work : (stage place part hold found count : ℕ) (cs′ : List ℕ) → P (collected (record { answer = Worked; rec = at rec stage place part hold found count }) cs′)) where
-  one-of : (b : Bool) (x y : Collected) → P x → P y → P (pick b x y)
-  one-of true x y h k = h
-  one-of false x y h k = k
-
   in-waiting : (next : ℕ) → P (collected (waiting rec seen next) cs)
   unfolding waiting
   in-waiting next = refuse-cases (λ (t : CollectorTurn). P (collected t cs)) _ _ _ stop (λ t. go (seen .same))
@@ -142,7 +152,7 @@ module _ (rec : Record) (seen : Survey) (fs cs : List ℕ) (P : Collected → Ty
 
   in-marking : P (marking rec seen cs)
   unfolding marking
-  in-marking = one-of (ltb (rec .place) (rec .g)) _ _ (refuse-cases P _ _ _ stop (λ t. work _ _ _ _ _ _ _)) (in-waiting 4)
+  in-marking = either P (ltb (rec .place) (rec .g)) _ _ (refuse-cases P _ _ _ stop (λ t. work _ _ _ _ _ _ _)) (in-waiting 4)
 
   in-pass : P (collected (endPass rec) cs)
   unfolding endPass
@@ -155,28 +165,28 @@ module _ (rec : Record) (seen : Survey) (fs cs : List ℕ) (P : Collected → Ty
   in-place : P (scanPlace rec cs)
   unfolding scanPlace
   in-place =
-      one-of (ltb (rec .place) (rec .n)) _ _
-      (refuse-cases P _ _ _ stop (λ t. one-of (eqb (colourOf cs (rec .place)) 2) _ _ (work _ _ _ _ _ _ _) (work _ _ _ _ _ _ _))) in-pass
+      either P (ltb (rec .place) (rec .n)) _ _
+      (refuse-cases P _ _ _ stop (λ t. either P (eqb (colourOf cs (rec .place)) 2) _ _ (work _ _ _ _ _ _ _) (work _ _ _ _ _ _ _))) in-pass
 
   in-scanning : (part : ℕ) → P (scanning rec fs cs part)
   unfolding scanning scanHold scanGray scanClose
   in-scanning part =
-      one-of (eqb part 0) _ _ in-place
-      (one-of (among (1 ∷ 3 ∷ 5 ∷ 7 ∷ []) part) _ _ (refuse-cases P _ _ _ stop (λ t. work _ _ _ _ _ _ _))
-      (one-of (among (2 ∷ 4 ∷ 6 ∷ 8 ∷ []) part) _ _ (refuse-cases P _ _ _ stop (λ t. work _ _ _ _ _ _ _)) (work _ _ _ _ _ _ _)))
+      either P (eqb part 0) _ _ in-place
+      (either P (among (1 ∷ 3 ∷ 5 ∷ 7 ∷ []) part) _ _ (refuse-cases P _ _ _ stop (λ t. work _ _ _ _ _ _ _))
+      (either P (among (2 ∷ 4 ∷ 6 ∷ 8 ∷ []) part) _ _ (refuse-cases P _ _ _ stop (λ t. work _ _ _ _ _ _ _)) (work _ _ _ _ _ _ _)))
 
   in-sweeping : P (sweeping rec cs)
   unfolding sweeping
-  in-sweeping = one-of (ltb (rec .place) (rec .n)) _ _ (refuse-cases P _ _ _ stop (λ t. work _ _ _ _ _ _ _)) (work _ _ _ _ _ _ _)
+  in-sweeping = either P (ltb (rec .place) (rec .n)) _ _ (refuse-cases P _ _ _ stop (λ t. work _ _ _ _ _ _ _)) (work _ _ _ _ _ _ _)
 
   in-stage : (stage : ℕ) → P (byStage rec seen fs cs stage)
   unfolding byStage opening
   in-stage stage =
-      one-of (eqb stage 0) _ _ (work _ _ _ _ _ _ _)
-      (one-of (eqb stage 1) _ _ (in-waiting 2)
-      (one-of (eqb stage 2) _ _ (in-waiting 3)
-      (one-of (eqb stage 3) _ _ in-marking
-      (one-of (eqb stage 4) _ _ (in-scanning (rec .part)) in-sweeping))))
+      either P (eqb stage 0) _ _ (work _ _ _ _ _ _ _)
+      (either P (eqb stage 1) _ _ (in-waiting 2)
+      (either P (eqb stage 2) _ _ (in-waiting 3)
+      (either P (eqb stage 3) _ _ in-marking
+      (either P (eqb stage 4) _ _ (in-scanning (rec .part)) in-sweeping))))
 
   in-turn : P (collectorTurn rec seen fs cs)
   unfolding collectorTurn
