@@ -12,8 +12,8 @@ ghost use Rattle.turn.specs.Lent.{writing, collecting, begun, beginning}
 use crate::Started;
 use cells::NONE;
 use cells::limits::sizes_ok;
-use collector::stages::collector_turn;
-use collector::turns::stopped;
+use collector::collector_turn;
+use collector::stopped;
 use machine::Answer;
 use machine::Call;
 use machine::CollectorTurn;
@@ -21,8 +21,8 @@ use machine::Record;
 use machine::Row;
 use machine::Survey;
 use machine::WriterTurn;
-use writer::rows::refused;
-use writer::turns::turn_of;
+use writer::refused;
+use writer::turn_of;
 
 pub fn write_core(
     rec: Record,
