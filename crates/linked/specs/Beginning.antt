@@ -1,4 +1,4 @@
--- An exported start that answers 16 has met the machine's contract, and what it left tells a fresh store.
+-- An exported start that answers 100 has met the machine's contract, and what it left tells a fresh store.
 use Prim.Native.Nat.{ℕ}
 use mathlib.Core.Path.{_≡_, refl, ap, _∙_}
 use mathlib.Core.Bool.{Bool, true, false}
@@ -32,7 +32,7 @@ pub record Begun (n g m : ℕ) (p new : Lent) : Type 0 where
 module _ (n g m : ℕ) (p : Lent) where
   -- start by its two tests
   start-by : (a b : Bool) → shaped (length (p .numbers)) (length (p .desk)) ≡ a → fits n g m (storeOf p) ≡ b
-      → startBy n g m p ≡ pick a (pick b (result 16 (allAfter p (fresh n g m))) (result 1 p)) (result 1 p)
+      → startBy n g m p ≡ pick a (pick b (result 100 (allAfter p (fresh n g m))) (result 1 p)) (result 1 p)
   unfolding called made ended refuse start answerNumber isRefused
   start-by true true e d = rw (e, d) refl
   start-by true false e d = rw (e, d) refl
@@ -57,11 +57,11 @@ module _ (n g m : ℕ) (p : Lent) where
       tells : Tells new (fresh n g m)
       tells = rw q (all-tells p (fresh n g m) (run-tellable n g m limits []))
 
-  -- a start that answers 16 has passed both
-  pub begun : (new : Lent) → result 16 new ≡ startBy n g m p → Begun n g m p new
+  -- a start that answers 100 has passed both
+  pub begun : (new : Lent) → result 100 new ≡ startBy n g m p → Begun n g m p new
   begun new s = go (shaped (length (p .numbers)) (length (p .desk))) (fits n g m (storeOf p)) refl refl
     where
-      refused : result 16 new ≡ result 1 p → Begun n g m p new
+      refused : result 100 new ≡ result 1 p → Begun n g m p new
       refused q = absurd (omega (arith, ap (λ (r : Result). r .answer) q))
 
       go : (a b : Bool) → shaped (length (p .numbers)) (length (p .desk)) ≡ a → fits n g m (storeOf p) ≡ b → Begun n g m p new

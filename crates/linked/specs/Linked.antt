@@ -38,8 +38,8 @@ pub record Linked (n g m : ℕ) (new : Lent) : Type 0 where
   -- no call of a writer or of the collector answers 1 or 2: the lent parts stay of this store's size, and in range
   pub in-range : (ts : List Turn) (now : Lent) → Called new ts now → (t : Turn) (a : ℕ) (after : Lent) → result a after ≡ turnBy t now → (a ≢ 1) × (a ≢ 2)
 
--- an answer's number below 16 is a refusal's
-number-refused : (a : Answer) (k : ℕ) → k < 16 → k ≡ answerNumber a → a ≡ Refused k
+-- an answer's number below 100 is a refusal's
+number-refused : (a : Answer) (k : ℕ) → k < 100 → k ≡ answerNumber a → a ≡ Refused k
 unfolding answerNumber
 number-refused Done k h e = absurd (omega arith)
 number-refused More k h e = absurd (omega arith)
@@ -66,8 +66,8 @@ lasting-linked {n} {g} {m} {new} b L P = record {
       (λ z. k .0 (number-refused _ 1 (omega arith) (sym z ∙ q)), λ z. k .1 (number-refused _ 2 (omega arith) (sym z ∙ q)));
 }
 
--- THE THEOREM: a start that answers 16 (done), on any lent memory, has made such a memory
-pub linked : (n g m : ℕ) (p new : Lent) → result 16 new ≡ startBy n g m p → Linked n g m new
+-- THE THEOREM: a start that answers 100 (done), on any lent memory, has made such a memory
+pub linked : (n g m : ℕ) (p new : Lent) → result 100 new ≡ startBy n g m p → Linked n g m new
 linked n g m p new e =
     let b = begun n g m p new e in
     let s = b .tells .store in

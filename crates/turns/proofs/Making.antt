@@ -109,9 +109,9 @@ unfolding numbersOf
 as-long l l′ rec e p = ap length p ∙ sym e
 
 pub counts-put : (l : List ℕ) (c : Counts) (r : Report) → length l ≡ 6 → r ≡ Counted c
-    → counted 16 (set (set (set (set (set (set l 0 (c .free)) 1 (c .white)) 2 (c .gray)) 3 (c .black)) 4 (c .held)) 5 (c .floating)) ≡ told l r
+    → counted 100 (set (set (set (set (set (set l 0 (c .free)) 1 (c .white)) 2 (c .gray)) 3 (c .black)) 4 (c .held)) 5 (c .floating)) ≡ told l r
 unfolding told
-counts-put l c r e h = rw h (ap (counted 16) (sets-rest (c .free ∷ c .white ∷ c .gray ∷ c .black ∷ c .held ∷ c .floating ∷ []) l 0 e))
+counts-put l c r e h = rw h (ap (counted 100) (sets-rest (c .free ∷ c .white ∷ c .gray ∷ c .black ∷ c .held ∷ c .floating ∷ []) l 0 e))
 
 pub counts-kept : (l : List ℕ) (k : ℕ) (r : Report) → r ≡ Refused k → counted k l ≡ told l r
 unfolding told

@@ -1,4 +1,4 @@
--- What the shape's test tells, and an answer's number: below 16 nothing has changed, and where the collector waited nothing has either.
+-- What the shape's test tells, and an answer's number: below 100 nothing has changed, and where the collector waited nothing has either.
 use Prim.Native.Nat.{ℕ, _<_}
 use mathlib.Core.Path.{_≡_, refl, ap}
 use mathlib.Core.List.{[], _∷_}
@@ -26,8 +26,8 @@ pub shape-fits : (numbers words : ℕ) → shaped numbers words ≡ true → Sha
 unfolding shaped
 shape-fits numbers words e = record { nine = eqb-true _ _ (hold _ e .0); whole = eqb-true _ _ (hold _ e .1 .0) }
 
--- ---- a call that answers a number below 16
-low : (p after : Lent) (a : Answer) → ended p after a .answer < 16 → ended p after a .after ≡ p
+-- ---- a call that answers a number below 100
+low : (p after : Lent) (a : Answer) → ended p after a .answer < 100 → ended p after a .after ≡ p
 unfolding ended answerNumber isRefused
 low p after Done h = absurd (omega arith)
 low p after More h = absurd (omega arith)
@@ -35,9 +35,9 @@ low p after Worked h = absurd (omega arith)
 low p after Waited h = absurd (omega arith)
 low p after (Refused k) h = refl
 
-pub refused-nothing : (call : Store → Outcome Answer) (put : Lent → Store → Lent) (p : Lent) → called call put p .answer < 16 → called call put p .after ≡ p
+pub refused-nothing : (call : Store → Outcome Answer) (put : Lent → Store → Lent) (p : Lent) → called call put p .answer < 100 → called call put p .after ≡ p
 unfolding called made
-refused-nothing call put p = refuse-cases (λ (r : Result). r .answer < 16 → r .after ≡ p) _ _ _ (λ k h. refl) (λ t. low p _ (call (storeOf p) .answer))
+refused-nothing call put p = refuse-cases (λ (r : Result). r .answer < 100 → r .after ≡ p) _ _ _ (λ k h. refl) (λ t. low p _ (call (storeOf p) .answer))
 
 -- ---- the collector waited
 -- its record is in range, and its store is as before
@@ -62,7 +62,7 @@ waits st =
     record { limits = within st (t .0); range = u .0; leaves = λ i. parts (same .0 i) (st .desk) (st .fields) (same .1 i) }))
 
 waited : (p : Lent) (a : Answer) → length (p .numbers) ≡ 9 → collect (storeOf p) .answer ≡ a
-    → ended p (recordAfter p (collect (storeOf p) .store)) a .answer ≡ 19 → ended p (recordAfter p (collect (storeOf p) .store)) a .after ≡ p
+    → ended p (recordAfter p (collect (storeOf p) .store)) a .answer ≡ 103 → ended p (recordAfter p (collect (storeOf p) .store)) a .after ≡ p
 unfolding ended answerNumber isRefused
 waited p Done n e h = absurd (omega arith)
 waited p More n e h = absurd (omega arith)
@@ -72,7 +72,7 @@ waited p Waited n e h =
     rw (w .leaves) (ap (λ r. lent r (p .desk) (p .fields) (p .colours)) (record-exact (p .numbers) n (w .limits) (w .range)))
 waited p (Refused k) n e h = refl
 
-pub waited-nothing : (p : Lent) → collectBy p .answer ≡ 19 → collectBy p .after ≡ p
+pub waited-nothing : (p : Lent) → collectBy p .answer ≡ 103 → collectBy p .after ≡ p
 unfolding called made
 waited-nothing p =
-    refuse-cases (λ (r : Result). r .answer ≡ 19 → r .after ≡ p) _ _ _ (λ k h. refl) (λ t. waited p (collect (storeOf p) .answer) (shape-fits (length (p .numbers)) (length (p .desk)) (t .0) .nine) refl)
+    refuse-cases (λ (r : Result). r .answer ≡ 103 → r .after ≡ p) _ _ _ (λ k h. refl) (λ t. waited p (collect (storeOf p) .answer) (shape-fits (length (p .numbers)) (length (p .desk)) (t .0) .nine) refl)

@@ -92,7 +92,7 @@ counted answer counts = record { answer = answer; counts = counts }
 -- the six counts are written (free, white, gray, black, held, floating), or left
 unfoldable pub told : List ℕ → Report → Told
 told counts (Counted c) =
-    counted 16 (c .free ∷ c .white ∷ c .gray ∷ c .black ∷ c .held ∷ c .floating ∷ [])
+    counted 100 (c .free ∷ c .white ∷ c .gray ∷ c .black ∷ c .held ∷ c .floating ∷ [])
 told counts (Refused k) = counted k counts
 
 -- the machine's census, where the shape fits and there are six counts

@@ -180,12 +180,12 @@ withRow words w row =
     pick (ltb w (length words / 16)) (take (w * 16) words ++ wordsOf row ++ drop (w * 16 + 16) words) words
 
 -- ---- an answer
--- its number: a refusal's own, below 16, or one from 16 on
+-- its number: a refusal's own, below 100, or one from 100 on
 unfoldable pub answerNumber : Answer → ℕ
-answerNumber Done = 16
-answerNumber More = 17
-answerNumber Worked = 18
-answerNumber Waited = 19
+answerNumber Done = 100
+answerNumber More = 101
+answerNumber Worked = 102
+answerNumber Waited = 103
 answerNumber (Refused k) = k
 
 -- whether it is a refusal

@@ -226,7 +226,7 @@ fn tell(counts: &mut [u32], report: Report) -> u32
             counts[3] = c.black as u32;
             counts[4] = c.held as u32;
             counts[5] = c.floating as u32;
-            16
+            100
         }
         Report::Refused(k) => k as u32,
     }

@@ -200,3 +200,11 @@ pub extern "C" fn turns_cycle_bound(n: u16, g: u16) -> u64
 {
     cycle_bound(n, g)
 }
+
+// The version that this archive and include/turns.h are of: 10,000 × major + 100 × minor + patch.
+#[no_mangle]
+pub extern "C" fn turns_version() -> u32
+    ensures { λ v. ⌜ v ≡ 200 ⌝ }
+{
+    200
+}

@@ -361,10 +361,10 @@ pub fn answer_number(a: Answer) -> u32
     ensures { λ r. ⌜ r ≡ answerNumber a ⌝ }
 {
     match a {
-        Answer::Done => 16,
-        Answer::More => 17,
-        Answer::Worked => 18,
-        Answer::Waited => 19,
+        Answer::Done => 100,
+        Answer::More => 101,
+        Answer::Worked => 102,
+        Answer::Waited => 103,
         Answer::Refused(k) => k as u32,
     }
 }

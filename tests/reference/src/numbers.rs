@@ -44,10 +44,10 @@ pub const EMPTY_SLOT: u32 = 6;
 pub const FULL: u32 = 7;
 
 /// The other answers.
-pub const DONE: u32 = 16;
-pub const MORE: u32 = 17;
-pub const WORKED: u32 = 18;
-pub const WAITED: u32 = 19;
+pub const DONE: u32 = 100;
+pub const MORE: u32 = 101;
+pub const WORKED: u32 = 102;
+pub const WAITED: u32 = 103;
 
 /// A call's answer, or the refusal that ended it.
 pub(crate) type Outcome = Result<u32, u32>;

@@ -9,7 +9,8 @@ use compare::memory::{any_parts, sizes};
 use compare::options::Options;
 use compare::parts::Parts;
 use compare::schedule::Schedule;
-use reference::{MOST_CELLS, MOST_PAGES, WAITED};
+use reference::{BAD_NUMBER, BAD_SIZE, BUSY, EMPTY_SLOT, FULL, NO_SUCH, NO_TURN};
+use reference::{DONE, MORE, MOST_CELLS, MOST_PAGES, WAITED, WORKED};
 use std::process::exit;
 
 const CALLS: u64 = 20_000_000;
@@ -18,18 +19,18 @@ const CALLS: u64 = 20_000_000;
 type Tally = [u64; WAITED as usize + 1];
 
 /// The answers that must come, with their names.
-const ANSWERS: [(usize, &str); 11] = [
-    (1, "1"),
-    (2, "2"),
-    (3, "3"),
-    (4, "4"),
-    (5, "5"),
-    (6, "6"),
-    (7, "7"),
-    (16, "done"),
-    (17, "more"),
-    (18, "worked"),
-    (19, "waited"),
+const ANSWERS: [(u32, &str); 11] = [
+    (BAD_SIZE, "1"),
+    (BAD_NUMBER, "2"),
+    (NO_SUCH, "3"),
+    (BUSY, "4"),
+    (NO_TURN, "5"),
+    (EMPTY_SLOT, "6"),
+    (FULL, "7"),
+    (DONE, "done"),
+    (MORE, "more"),
+    (WORKED, "worked"),
+    (WAITED, "waited"),
 ];
 
 /// The parts of both machines.
@@ -156,7 +157,7 @@ fn bounds() -> Result<(), String> {
 
 /// Plays sequences until the calls are made, or only the one that is asked for.
 fn run(seed: u64, calls: u64, only: Option<u64>) -> Result<Tally, String> {
-    let mut tally = Tally::default();
+    let mut tally = [0; WAITED as usize + 1];
     bounds()?;
     for sequence in only.unwrap_or(0).. {
         play(seed, sequence, &mut tally).map_err(|what| {
@@ -166,7 +167,8 @@ fn run(seed: u64, calls: u64, only: Option<u64>) -> Result<Tally, String> {
             break;
         }
     }
-    match ANSWERS.iter().find(|(answer, _)| tally[*answer] == 0) {
+    let never = |answer: u32| tally[answer as usize] == 0;
+    match ANSWERS.iter().find(|(answer, _)| never(*answer)) {
         Some((_, name)) if only.is_none() => Err(format!("the answer {name} never came")),
         _ => Ok(tally),
     }
@@ -181,7 +183,7 @@ fn main() {
     match run(seed, calls, options.get("--only")) {
         Ok(tally) => {
             let made: u64 = tally.iter().sum();
-            let came = ANSWERS.map(|(answer, name)| format!("{name}: {}", tally[answer]));
+            let came = ANSWERS.map(|(answer, name)| format!("{name}: {}", tally[answer as usize]));
             let came = came.join(", ");
             println!("compare: seed {seed}, {made} calls, no difference; {came}");
         }
