@@ -1,7 +1,7 @@
 // The program's work, for any program: reads, plays and writes.
 use player::Play;
 ghost use mathlib.Core.Path.{_≡_};
-ghost use Prim.Native.Nat.{_<_, _≤_};
+ghost use Prim.Native.Nat.{_+_, _<_, _≤_};
 ghost use lib.ListN.{length};
 ghost use Rattle.playing.specs.Between.{Between};
 
@@ -18,11 +18,42 @@ struct Sent {
     play: Play,
 }
 
-// Writes what stands in the output buffer.
+// One write, made again while a signal interrupts it: how many bytes were taken, or 0 where it failed, which is told on standard error.
+fn put_some(bytes: &[u8]) -> usize
+    ensures { λ r. ⌜ r ≤ length (now (bytes .entry)) ⌝ }
+{
+    let mut tries = u64::MAX;
+    while tries > 0 {
+        let put = libc::write(libc::STDOUT_FILENO, bytes);
+        if put > 0 {
+            return io::count(put, bytes);
+        }
+        if put == 0 {
+            io::write_all(libc::STDERR_FILENO, b"play: writing: nothing was taken\n");
+            return 0;
+        }
+        if os::errno() != libc::EINTR {
+            os::fail(b"play: writing");
+            return 0;
+        }
+        tries -= 1;
+    }
+    0
+}
+
+// Writes what stands in the output buffer: whether all of it was taken.
 fn flush(out: &[u8], at: usize) -> bool
     requires { ⌜ at ≤ length (now out) ⌝ }
 {
-    io::write_all(1, &out[..at])
+    let mut from = 0;
+    while from < at {
+        let put = put_some(&out[from..at]);
+        if put == 0 {
+            return false;
+        }
+        from += put;
+    }
+    true
 }
 
 // Plays bytes of a chunk from `from` on, at least one, and writes what they gave.
@@ -86,7 +117,27 @@ fn close_text(line: &[u8], out: &mut [u8], fields: &mut [u16], colours: &mut [u8
     flush(out, q.at);
 }
 
-// Reads once, and plays what came.
+// One read, made again while a signal interrupts it: how many bytes came, 0 at the end of the input, or less where it failed, which is told
+// on standard error.
+fn take_some(input: &mut [u8]) -> isize
+    ensures { λ r. ⌜ length (now (input .exit)) ≡ length (now (input .entry)) ⌝ }
+{
+    let mut tries = u64::MAX;
+    while tries > 0 {
+        let got = libc::read(libc::STDIN_FILENO, input);
+        if got >= 0 {
+            return got;
+        }
+        if os::errno() != libc::EINTR {
+            os::fail(b"play: reading");
+            return got;
+        }
+        tries -= 1;
+    }
+    -1
+}
+
+// Reads once, and plays what came. Where a read fails, the line that it cut is not played.
 fn read_some(
     input: &mut [u8],
     line: &mut [u8],
@@ -98,8 +149,11 @@ fn read_some(
     requires { ⌜ Between (now line) (now out) (now fields) (now colours) p ⌝ }
     ensures { λ r. ⌜ Between (now (line .exit)) (now (out .exit)) (now (fields .exit)) (now (colours .exit)) (r .play) ⌝ }
 {
-    let got = libc::read(0, input);
-    if got <= 0 {
+    let got = take_some(input);
+    if got < 0 {
+        return Some { go: false, play: p };
+    }
+    if got == 0 {
         close_text(line, out, fields, colours, p);
         return Some { go: false, play: p };
     }
