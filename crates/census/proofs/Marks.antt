@@ -9,7 +9,7 @@ use lib.Seq.{get_or-set_same, get_or-set_other}
 use Rattle.machine.specs.Parts.{field_of}
 use Rattle.machine.specs.Store.{Store, parts}
 use Rattle.machine.specs.Census.{In, pages, slots, roots, InUse, Held, root, field, in_use, unreached}
-use Rattle.machine.specs.CensusLaws.{held-exact, floating_exact, in_left, in_right, in_either}
+use Rattle.machine.proofs.CensusLaws.{held-exact, floating_exact, in_left, in_right, in_either}
 use Rattle.machine.specs.declared.Record.{Record}
 use Rattle.machine.specs.declared.Row.{Row}
 use Rattle.cells.specs.Sized.{Sized}

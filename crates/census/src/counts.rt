@@ -9,7 +9,7 @@ use crate::reach::walk;
 use machine::{Counts, Record, Row};
 
 // How many cells have each colour.
-#[derive(Drop)]
+#[derive(Clone, Copy)]
 pub struct Shades {
     pub free: u16,
     pub white: u16,

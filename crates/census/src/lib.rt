@@ -1,5 +1,7 @@
 // The census: six counts of a lent store. It changes nothing. Beside the call over the lent desk there is one with plain parameters, for who
 // keeps eight rows in an array; the census by value in `core` is for who lends a desk of another form.
+#![tactic(auto)]
+
 ghost use Rattle.core.specs.Prelude.{take};
 ghost use Rattle.machine.specs.Machine.{Meets, counting};
 ghost use Rattle.machine.specs.Store.{parts};

@@ -1,4 +1,6 @@
 // The player's text, without the machine's memory: a line of the input is read, an output line is written.
+#![tactic(auto)]
+
 use machine::Call;
 
 mod bytes;
@@ -11,7 +13,7 @@ pub use parse::parse_line;
 pub use print::{put_answer, put_report};
 
 // A line of the input: Start(N, g, M), Write(w, the writer's call), with the numbers as read.
-#[derive(Drop)]
+#[derive(Clone, Copy)]
 pub enum Line {
     Start(u32, u32, u32),
     Write(u32, Call),

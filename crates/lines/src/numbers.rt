@@ -7,14 +7,14 @@ ghost use Rattle.lines.specs.Lines.{args_from};
 use crate::fields::field_end;
 
 // A field read as a number.
-#[derive(Drop)]
+#[derive(Clone, Copy)]
 pub enum Number {
     Num(u32),
     Bad,
 }
 
 // The numbers after the word. Wrong: a field that is no number, or more than four.
-#[derive(Drop)]
+#[derive(Clone, Copy)]
 pub enum Args {
     Zero,
     One(u32),

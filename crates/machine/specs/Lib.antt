@@ -15,9 +15,7 @@ pub mod Creating
 pub mod Writer
 pub mod Collector
 pub mod Census
-pub mod CensusLaws
 pub mod Answer
-pub mod AnswerLaws
 pub mod Machine
 pub mod Run
 pub mod Points

@@ -9,7 +9,6 @@ use Rattle.machine.specs.Writer.{turn_of}
 use Rattle.machine.specs.Collector.{survey, collector_turn}
 use Rattle.machine.specs.Census.{census}
 use Rattle.machine.specs.Answer.{Said, said_by, said_by_census}
-use Rattle.machine.specs.AnswerLaws.{answer-said, report_said}
 use Rattle.machine.specs.declared.Row.{Row}
 use Rattle.machine.specs.declared.Call.{Call}
 use Rattle.machine.specs.declared.Answer.{Answer}
@@ -76,12 +75,3 @@ outcome_of counting st = census st
 pub record Meets (p : Public) (st : Store) (answer : Answers p) (after : Store) : Type 0 where
   pub says : said_in p answer ≡ said_in p (outcome_of p st).answer
   pub leaves : after ≡ (outcome_of p st).store
-
--- "prove that two outcomes allowed by it coincide"
-said_once : (p : Public) (a b : Answers p) → said_in p a ≡ said_in p b → a ≡ b
-said_once (starting n g m) = answer-said
-said_once (turning t) = answer-said
-said_once counting = report_said
-
-pub determined : (p : Public) (st : Store) (a b : Answers p) (after after' : Store) → Meets p st a after → Meets p st b after' → (a ≡ b) × (after ≡ after')
-determined p st a b after after' m n = (said_once p a b (m.says ∙ sym n.says), m.leaves ∙ sym n.leaves)

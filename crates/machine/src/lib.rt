@@ -1,7 +1,8 @@
 // The types that the machine of turns is about. The machine itself is in specs/.
+#![tactic(auto)]
 
 // The collector's record.
-#[derive(Drop)]
+#[derive(Clone, Copy)]
 pub struct Record {
     pub n: u16,
     pub g: u16,
@@ -15,7 +16,7 @@ pub struct Record {
 }
 
 // What a store carries: field `field` of cell `cell` is to hold `new`; `old` is what it held, none until it is read.
-#[derive(Drop)]
+#[derive(Clone, Copy)]
 pub struct Stored {
     pub cell: u16,
     pub field: u8,
@@ -25,7 +26,7 @@ pub struct Stored {
 
 // A store's plan and its next turn. Full: read the old value, gray it, gray the new one, write. Traced: read old, gray
 // old, write. Bare: write.
-#[derive(Drop)]
+#[derive(Clone, Copy)]
 pub enum Plan {
     FullRead,
     FullOld,
@@ -38,7 +39,7 @@ pub enum Plan {
 }
 
 // What a creation's look has decided. While it is ahead the job says keep.
-#[derive(Drop)]
+#[derive(Clone, Copy)]
 pub enum Look {
     Ahead,
     Keep,
@@ -46,7 +47,7 @@ pub enum Look {
 }
 
 // What a creation carries: the new cell, and the slot that it goes to.
-#[derive(Drop)]
+#[derive(Clone, Copy)]
 pub struct Made {
     pub slot: u8,
     pub cell: u16,
@@ -54,21 +55,21 @@ pub struct Made {
 }
 
 // A job's work: answering (the next slot), storing or creating.
-#[derive(Drop)]
+#[derive(Clone, Copy)]
 pub enum Work {
     Answering(u8),
     Storing(Stored, Plan),
     Creating(Made),
 }
 
-#[derive(Drop)]
+#[derive(Clone, Copy)]
 pub enum Job {
     Idle,
     Busy(Work),
 }
 
 // A writer's row of the desk.
-#[derive(Drop)]
+#[derive(Clone, Copy)]
 pub struct Row {
     pub status: u8,
     pub slots: [u16; 8],
@@ -77,7 +78,7 @@ pub struct Row {
 
 // A writer's call, with the numbers that follow the writer's own: Page(p, s), Copy(r, s), Drop(r), Read(r, f, s),
 // Store(r, f, q), Create(s), Answer, Next.
-#[derive(Drop)]
+#[derive(Clone, Copy)]
 pub enum Call {
     Page(u32, u32),
     Copy(u32, u32),
@@ -90,7 +91,7 @@ pub enum Call {
 }
 
 // What a call answers. `More`: the job is unfinished.
-#[derive(Drop)]
+#[derive(Clone, Copy)]
 pub enum Answer {
     Done,
     More,
@@ -100,7 +101,7 @@ pub enum Answer {
 }
 
 // What a census counts, and what it answers.
-#[derive(Drop)]
+#[derive(Clone, Copy)]
 pub struct Counts {
     pub free: u16,
     pub white: u16,
@@ -110,28 +111,28 @@ pub struct Counts {
     pub floating: u16,
 }
 
-#[derive(Drop)]
+#[derive(Clone, Copy)]
 pub enum Report {
     Counted(Counts),
     Refused(u8),
 }
 
 // A writer's turn by value: the answer, and the row after it.
-#[derive(Drop)]
+#[derive(Clone, Copy)]
 pub struct WriterTurn {
     pub answer: Answer,
     pub row: Row,
 }
 
 // A collector's turn by value: the answer, and the record after it.
-#[derive(Drop)]
+#[derive(Clone, Copy)]
 pub struct CollectorTurn {
     pub answer: Answer,
     pub rec: Record,
 }
 
 // What a look for the lowest free cell finds: a free cell; none; a byte above 3 before any.
-#[derive(Drop)]
+#[derive(Clone, Copy)]
 pub enum Room {
     Free(u16),
     Full,
@@ -139,7 +140,7 @@ pub enum Room {
 }
 
 // What a waiting test finds in the statuses of all rows: each is in range; each is the posted number.
-#[derive(Drop)]
+#[derive(Clone, Copy)]
 pub struct Survey {
     pub fit: bool,
     pub same: bool,

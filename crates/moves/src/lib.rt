@@ -1,5 +1,7 @@
 // The theory of the machine's moves is in specs/. The one number of it that code may want is here: the most working turns that
 // a cycle takes.
+#![tactic(auto)]
+
 ghost use Rattle.std.specs.Prelude.{◌≡◌};
 ghost use Rattle.moves.specs.Bound.{c_max};
 

@@ -11,7 +11,7 @@ use cells::NONE;
 use lines::{parse_line, put_answer, put_report};
 use machine::{Job, Record, Row};
 
-#[derive(Drop)]
+#[derive(Clone, Copy)]
 pub struct Play {
     // bytes of the line so far, at most 65: a longer line is unreadable
     pub len: usize,
@@ -22,7 +22,7 @@ pub struct Play {
     pub own: Own,
 }
 
-#[derive(Drop)]
+#[derive(Clone, Copy)]
 pub struct Fed {
     // the place in the chunk of the next byte
     pub next: usize,

@@ -3,7 +3,7 @@ ghost use Rattle.std.specs.Prelude.{List, ◌∷◌, ◌≡◌, ℕ, ◌≤◌, 
 ghost use Rattle.player.specs.Fill.{Alike, Filled};
 
 // What a chunk gave of a line: the place of the next byte, how many bytes of the line are kept, and whether its end was met.
-#[derive(Drop)]
+#[derive(Clone, Copy)]
 pub struct Part {
     pub next: usize,
     pub len: usize,

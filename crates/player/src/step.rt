@@ -11,7 +11,7 @@ use machine::{Answer, Call, Record, Report, Row};
 use turn::kept::{collect_kept, start_kept, write_kept};
 
 // What the player keeps beside its words and colour bytes: whether a start has succeeded, the record, and eight rows.
-#[derive(Drop)]
+#[derive(Clone, Copy)]
 pub struct Own {
     pub started: bool,
     pub rec: Record,
@@ -19,13 +19,13 @@ pub struct Own {
 }
 
 // What a line is answered with.
-#[derive(Drop)]
+#[derive(Clone, Copy)]
 pub enum Reply {
     Called(Answer),
     Counted(Report),
 }
 
-#[derive(Drop)]
+#[derive(Clone, Copy)]
 pub struct Told {
     pub reply: Reply,
     pub own: Own,

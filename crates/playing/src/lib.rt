@@ -1,4 +1,6 @@
 // The program's work, for any program: reads, plays and writes.
+#![tactic(auto)]
+
 ghost use Rattle.std.specs.Prelude.{◌≡◌, ◌+◌, ◌<◌, ◌≤◌, length};
 ghost use Rattle.playing.specs.Between.{Between};
 

@@ -6,7 +6,7 @@ use Rattle.machine.specs.Choice.{refuse}
 use Rattle.machine.specs.ChoiceLaws.{hold}
 use Rattle.machine.specs.Limits.{limits_ok, sizes_ok}
 use Rattle.machine.specs.Store.{Store, fits, fresh, start}
-use Rattle.machine.specs.AnswerLaws.{answer-said}
+use Rattle.machine.proofs.AnswerLaws.{answer-said}
 use Rattle.machine.specs.Machine.{Turn, turn, starting, turning, outcome_of, Meets}
 use Rattle.machine.specs.Run.{run, working_turns, C}
 use Rattle.machine.specs.declared.Answer.{Answer}

@@ -1,5 +1,7 @@
 // A small site: one writer makes a cell, drops it, and a whole cycle of the collector takes it back. A line is written for each call:
 // who made it, and what it answered. Then the colours, and the most turns that a cycle of this store, and of the largest, takes.
+#![tactic(auto)]
+
 use machine::{Answer, Call, Job, Record, Row};
 use moves::cycle_bound;
 use turn::kept::{Kept, collect_kept, start_kept, write_kept};

@@ -2,7 +2,8 @@
 -- has no exception.
 use Rattle.core.specs.Prelude.{◌≡◌, ℕ}
 use Rattle.machine.specs.Store.{Store}
-use Rattle.machine.specs.Machine.{Public, starting, turning, writer, collector, Answers, Meets, determined}
+use Rattle.machine.specs.Machine.{Public, starting, turning, writer, collector, Answers, Meets}
+use Rattle.machine.proofs.Determined.{determined}
 use Rattle.machine.specs.declared.Call.{Call}
 
 abbrev pub OneOutcome : Public → Type 0

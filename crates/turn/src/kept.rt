@@ -8,7 +8,7 @@ use crate::{collect, start, write};
 use machine::{Answer, Call, CollectorTurn, Record, Row};
 
 // What a call on kept rows gives: the answer, and the record and the rows after it.
-#[derive(Drop)]
+#[derive(Clone, Copy)]
 pub struct Kept {
     pub answer: Answer,
     pub rec: Record,

@@ -1,6 +1,8 @@
 // The public calls: start, write, collect. Each takes any numbers and any lent memory. The record, the desk, the fields and the colours
 // are lent; a call with plain parameters beside each is for who keeps eight rows in an array, and the calls by value in `core` are for who
 // lends a desk of another form.
+#![tactic(auto)]
+
 ghost use Rattle.core.specs.Prelude.{◌≡◌};
 ghost use Rattle.machine.specs.Machine.{Meets, turning, starting, writer, collector};
 ghost use Rattle.machine.specs.Store.{parts};
@@ -14,7 +16,7 @@ use crate::desk::{blank_rows, put_row, row_or, survey_desk};
 use machine::{Answer, Call, Record, Row};
 
 // What a start by value gives: whether the desk is to be filled, the answer, and the record after it.
-#[derive(Drop)]
+#[derive(Clone, Copy)]
 pub struct Started {
     pub go: bool,
     pub answer: Answer,

@@ -6,7 +6,7 @@ use native.Mathlib.Decide.{dec_lt}
 use lib.Seq.{get_or-set_same}
 use borrow.Author.Tests.{not-false, le-ltb, eq-eqb, ne_eqb}
 use Rattle.machine.specs.Choice.{refuse}
-use Rattle.machine.specs.AnswerLaws.{answer-said, report_said}
+use Rattle.machine.proofs.AnswerLaws.{answer-said, report_said}
 use Rattle.machine.specs.Store.{Store, Outcome, outcome, parts, fresh_row, start}
 use Rattle.machine.specs.Census.{census}
 use Rattle.machine.specs.Turns.{Written, written, Collected, collected}

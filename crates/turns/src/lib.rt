@@ -1,5 +1,7 @@
 // The calls of the machine for C and Rust, over plain numbers: an exported function takes no enum, so the record is lent as nine numbers, a
 // row of the desk as 16 words, and an answer is a number. include/turns.h names them. Every call takes any numbers and any lent memory.
+#![tactic(auto)]
+
 ghost use Rattle.core.specs.Prelude.{◌≡◌};
 ghost use Rattle.machine.specs.declared.Call.{Call};
 ghost use Rattle.moves.specs.Bound.{c_max};

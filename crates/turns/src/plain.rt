@@ -8,7 +8,7 @@ use machine::{Answer, Job, Look, Made, Plan, Record, Row, Stored, Work};
 use turn::desk::fresh_row;
 
 // A job's words, in their order.
-#[derive(Drop)]
+#[derive(Clone, Copy)]
 pub struct Task {
     pub kind: u16,
     pub step: u16,

@@ -1,0 +1,14 @@
+use Prim.Native.Nat.{◌-◌}
+use borrow.Author.Rules.{rules}
+use Rattle.cells.proofs.Looping.{Tested, tests, tested-next}
+use Rattle.machine.specs.Range.{value_ok}
+use Rattle.cells.proofs.range.slots_ok.Goals as goal
+
+pub loop-i-init : goal.loop-i-init
+loop-i-init c = search (rules, tests)
+
+pub loop-i-preserved : goal.loop-i-preserved
+loop-i-preserved c = tested-next _ _ _ _ _ c.loop-i.invariant _ _ c.loop-i-test.true c.value_ok.ensures c.both-good.ensures
+
+pub returns : goal.returns
+returns c = search tests
