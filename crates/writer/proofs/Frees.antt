@@ -39,13 +39,13 @@ skip (x ∷ xs) ys i e =
     rw (not-true (eqb x 0) k.0, k.1.0) (skip xs ys (i + 1) h.1.0 ∙ ap (λ (k : ℕ). lowest_free k ys) z)
 
 -- `if !all_used(&l[i..i + n]) { return i; } i += n;`
-pub past_more : (l : List ℕ) (i n : ℕ) (r : Bool) → Past l i → i + n ≤ length l → r ≡ all used (take (i + n - i) (drop i l)) → not r ≡ false → Past l (i + n)
+pub past_more : (l : List ℕ) (i n : ℕ) (r : Bool) → Past l i → i + n ≤ length l → r ≡ all used (take (i + n - i) (drop i l)) → r ≡ true → Past l (i + n)
 past_more l i n r p h e t =
     let m : i + n - i ≡ n = omega arith in
     let k : length (take n (drop i l)) ≡ n = length-take-le n (drop i l) (simp length-drop (omega arith)) in
     record {
       within = h;
-      same = sym (rw (take-append-drop n (drop i l), drop-drop n i l, k) at (skip (take n (drop i l)) (drop n (drop i l)) i (sym (rw m at e) ∙ not-false r t))) ∙ p.same;
+      same = sym (rw (take-append-drop n (drop i l), drop-drop n i l, k) at (skip (take n (drop i l)) (drop n (drop i l)) i (sym (rw m at e) ∙ t))) ∙ p.same;
     }
 
 pub ruleset frees = (free_via, free_step, free-end)

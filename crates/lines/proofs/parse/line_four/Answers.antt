@@ -1,0 +1,8 @@
+use borrow.Author.Rules.{rules}
+use Rattle.lines.specs.Lines.{line_four}
+use Rattle.cells.proofs.Choosing.{picks}
+use Rattle.lines.proofs.parse.line_four.Goals as goal
+
+pub is-requires-2 : goal.is-requires-2
+unfolding line_four
+is-requires-2 c = search picks

@@ -1,0 +1,12 @@
+use borrow.Author.Rules.{rules}
+use Rattle.lines.specs.Lines.{line_three}
+use Rattle.cells.proofs.Choosing.{picks}
+use Rattle.lines.proofs.parse.line_three.Goals as goal
+
+pub is-requires-2 : goal.is-requires-2
+unfolding line_three
+is-requires-2 c = search picks
+
+pub returns-then-is-3 : goal.returns-then-is-3
+unfolding line_three
+returns-then-is-3 c = search picks

@@ -1,0 +1,8 @@
+use borrow.Author.Rules.{rules}
+use Rattle.lines.specs.Output.{tabbed}
+use Rattle.lines.proofs.Written.{also}
+use Rattle.lines.proofs.print.put_tabbed.Goals as goal
+
+pub returns : goal.returns
+unfolding tabbed
+returns c = (search also depth 8, search rules)
