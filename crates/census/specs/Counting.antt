@@ -1,6 +1,6 @@
 -- The census as it is made by value: the record, the number of rows and eight rows of which so many are the desk's. Answers.antt in proofs/
 -- leads from it to the machine.
-use Rattle.core.specs.Prelude.{◌≡◌, ℕ, ◌+◌, ◌≤◌, List, [], ◌∷◌, length, take, drop, ◌==◌}
+use Rattle.std.specs.Prelude.{◌≡◌, ℕ, ◌+◌, ◌≤◌, List, [], ◌∷◌, length, take, drop, ◌==◌}
 use Rattle.machine.specs.Choice.{pick, all, refuse}
 use Rattle.machine.specs.Limits.{sizes_ok}
 use Rattle.machine.specs.Range.{record_ok, row_ok, value_ok, colour_ok}

@@ -1,5 +1,5 @@
 -- The walk through the held cells: marks m (1 is reached), and the stack s, whose first t hold the cells that are marked and not yet opened.
-use Rattle.core.specs.Prelude.{◌≡◌, ℕ, zero, suc, ◌+◌, ◌≤◌, ◌≢◌, List, [], ◌∷◌, length, take, drop, ◌==◌, slice_index, slice_set}
+use Rattle.std.specs.Prelude.{◌≡◌, ℕ, zero, suc, ◌+◌, ◌≤◌, ◌≢◌, List, [], ◌∷◌, length, take, drop, ◌==◌, slice_index, slice_set}
 use Rattle.machine.specs.Choice.{pick}
 use Rattle.machine.specs.Parts.{colour_of}
 use Rattle.machine.specs.Census.{slots}

@@ -1,5 +1,5 @@
 // The six counts.
-ghost use Rattle.core.specs.Prelude.{◌≡◌, ◌≤◌, length, take};
+ghost use Rattle.std.specs.Prelude.{◌≡◌, ◌≤◌, length, take};
 ghost use Rattle.machine.specs.Store.{parts};
 ghost use Rattle.machine.specs.Census.{counts};
 ghost use Rattle.cells.specs.Sized.{Sized};

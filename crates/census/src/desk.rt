@@ -1,5 +1,5 @@
 // The desk behind its reference: its rows, copied into an array of eight.
-ghost use Rattle.core.specs.Prelude.{◌≡◌, length, take, replicate, slice_set};
+ghost use Rattle.std.specs.Prelude.{◌≡◌, length, take, replicate, slice_set};
 ghost use Rattle.machine.specs.Store.{fresh_row};
 ghost use Rattle.turn.specs.Lent.{own_rows};
 

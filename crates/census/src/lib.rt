@@ -1,18 +1,18 @@
 // The census: six counts of a lent store. It changes nothing. Beside the call over the lent desk there is one with plain parameters, for who
-// keeps eight rows in an array; the census by value in `core` is for who lends a desk of another form.
+// keeps eight rows in an array; the census by value in `by_value` is for who lends a desk of another form.
 #![tactic(auto)]
 
-ghost use Rattle.core.specs.Prelude.{take};
+ghost use Rattle.std.specs.Prelude.{take};
 ghost use Rattle.machine.specs.Machine.{Meets, counting};
 ghost use Rattle.machine.specs.Store.{parts};
 ghost use Rattle.turn.specs.Lent.{own_rows};
 
-pub mod core;
+pub mod by_value;
 mod counts;
 pub mod desk;
 mod reach;
 
-use crate::core::census_core;
+use crate::by_value::census_core;
 use crate::desk::gather;
 use machine::{Record, Report, Row};
 use turn::kept::rows_of;

@@ -1,5 +1,5 @@
 // The walk through the held cells. It keeps a byte and a word for every cell, and opens each reached cell once.
-ghost use Rattle.core.specs.Prelude.{◌≡◌, ◌+◌, ◌*◌, ◌≤◌, length, take};
+ghost use Rattle.std.specs.Prelude.{◌≡◌, ◌+◌, ◌*◌, ◌≤◌, length, take};
 ghost use Rattle.machine.specs.Parts.{field_of};
 ghost use Rattle.machine.specs.Store.{parts};
 ghost use Rattle.machine.specs.Census.{pages, in_use, unreached};

@@ -1,5 +1,5 @@
 -- A start whose parts are known by equations is known: what `start_core` concludes by.
-use Rattle.core.specs.Prelude.{◌≡◌, ℕ, Bool, List}
+use Rattle.std.specs.Prelude.{◌≡◌, ℕ, Bool, List}
 use Rattle.machine.specs.declared.Record.{Record}
 use Rattle.machine.specs.declared.Answer.{Answer}
 use Rattle.turn.specs.Lent.{started, begun}

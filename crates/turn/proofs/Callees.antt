@@ -1,7 +1,7 @@
 -- The covered functions that more than one walk calls: `fresh_row` (row_or, blank_rows), `rows_of` (write_kept, collect_kept) and `keep` (start_kept, write_kept, collect_kept). Assumes nothing. Of each there are
 --     its contract, FreshRow, RowsOf, Keep
 --     to-..       what the contract is taken at.        goes-..     its `pre` there, which is had for nothing
-use Rattle.core.specs.Prelude.{List, [], ◌∷◌}
+use Rattle.std.specs.Prelude.{List, [], ◌∷◌}
 use seplogic.Ra.Ura.{Ura}
 use mir.Val.{Val}
 use base.Logic.{SProp, ent, sep}

@@ -3,7 +3,7 @@
 --                      with φ and the result's relation learned; what is had of ws stands at the head, then i
 --     gives            the same where φ says nothing of last values, which are let go: i stands at the head
 -- Assumes `Logic`.
-use Rattle.core.specs.Prelude.{List, [], ◌∷◌}
+use Rattle.std.specs.Prelude.{List, [], ◌∷◌}
 use seplogic.Ra.Ura.{Ura}
 use mir.Val.{Val}
 use base.Logic.{id⊢}

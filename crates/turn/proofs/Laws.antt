@@ -1,5 +1,5 @@
 -- From the calls by value to the machine: what each public call concludes from its callees' promises.
-use Rattle.core.specs.Prelude.{◌≡◌, ℕ, ◌*◌, Bool, true, false, List, ◌++◌, length, get_or, take, drop, set}
+use Rattle.std.specs.Prelude.{◌≡◌, ℕ, ◌*◌, Bool, true, false, List, ◌++◌, length, get_or, take, drop, set}
 use mathlib.Core.Path.{refl, ◌∙◌, ap}
 use lib.Seq.{set-get_or, take_at, drop_at}
 use borrow.Author.Tests.{eqb-true}

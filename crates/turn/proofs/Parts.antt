@@ -2,7 +2,7 @@
 --     Heads     the record and the desk: the references xr and xd, and the desk's machine value sd
 --     Cells     the fields and the colours: the references xf and xc, and their machine values sf and sc
 -- Of each part there are given the block and the offset that it stands at, its ghost name, and what it is at entry.
-use Rattle.core.specs.Prelude.{ℕ, List, length}
+use Rattle.std.specs.Prelude.{ℕ, List, length}
 use mir.Val.{Val}
 use base.Fml.{GName}
 use denote.Ref.{Bor}

@@ -1,5 +1,5 @@
 -- What the collector sees of the desk: the survey of the rows that a turn reads, one row at a time, and that it is enough for the turn.
-use Rattle.core.specs.Prelude.{◌≡◌, ℕ, ◌+◌, ◌<◌, ◌≤◌, Bool, true, false, eqb, leb, List, [], ◌∷◌, ◌++◌, length, get_or, take}
+use Rattle.std.specs.Prelude.{◌≡◌, ℕ, ◌+◌, ◌<◌, ◌≤◌, Bool, true, false, eqb, leb, List, [], ◌∷◌, ◌++◌, length, get_or, take}
 use mathlib.Core.Path.{refl}
 use mathlib.Core.Bool.{true≢false}
 use native.Mathlib.Numerals.{add-one}

@@ -1,5 +1,5 @@
 -- What refusal 1, once it has been passed, gives the turns: the lent lengths fit N, and N, g and M are small.
-use Rattle.core.specs.Prelude.{◌≡◌, ℕ, ◌≤◌, Bool, true, false, not, List, length}
+use Rattle.std.specs.Prelude.{◌≡◌, ℕ, ◌≤◌, Bool, true, false, not, List, length}
 use mathlib.Core.Path.{sym, ◌∙◌}
 use native.Mathlib.Omega.{arith}
 use borrow.Author.Tests.{eqb-true, leb-true, not-false}

@@ -4,7 +4,7 @@
 --     unit-typed             a callee's unit can be stored
 --     own-few, own-length, own_room     the desk of who keeps eight rows: at most eight, that many taken of them, and room for a slice of them
 --     rec-part, part-rec     a record in a local is a record in memory, which can be lent; and back, with its relation
-use Rattle.core.specs.Prelude.{◌≡◌, ℕ, ◌+◌, ◌*◌, ◌^◌, ◌<◌, ◌≤◌, Bool, true, false, T, ltb, List, [], ◌∷◌, length, take}
+use Rattle.std.specs.Prelude.{◌≡◌, ℕ, ◌+◌, ◌*◌, ◌^◌, ◌<◌, ◌≤◌, Bool, true, false, T, ltb, List, [], ◌∷◌, length, take}
 use mathlib.Core.Path.{sym, ap, subst}
 use native.Mathlib.Omega.{arith}
 use lib.Seq.{length-take-le}

@@ -1,6 +1,6 @@
 -- Each public call of this crate fixes its outcome: of the answers and memories after it that its contract allows there is one. The list
 -- has no exception.
-use Rattle.core.specs.Prelude.{◌≡◌, ℕ}
+use Rattle.std.specs.Prelude.{◌≡◌, ℕ}
 use Rattle.machine.specs.Store.{Store}
 use Rattle.machine.specs.Machine.{Public, starting, turning, writer, collector, Answers, Meets}
 use Rattle.machine.proofs.Determined.{determined}

@@ -1,6 +1,6 @@
 -- The machine's calls as the lent forms make them: the row, the record and what is seen of the desk by value, with the refusals that
 -- come before the turn. Laws.antt in proofs/ leads from these to the machine.
-use Rattle.core.specs.Prelude.{ℕ, ◌-◌, Bool, true, false, List, [], ◌∷◌, ◌++◌, length, take, replicate, ◌==◌, nat_le, nat_lt}
+use Rattle.std.specs.Prelude.{ℕ, ◌-◌, Bool, true, false, List, [], ◌∷◌, ◌++◌, length, take, replicate, ◌==◌, nat_le, nat_lt}
 use Rattle.machine.specs.Choice.{pick, every, refuse}
 use Rattle.machine.specs.Limits.{none, sizes_ok}
 use Rattle.machine.specs.Store.{fresh_row, fresh_record}

@@ -1,5 +1,5 @@
 // The desk behind its reference: a row taken out, a row put back, all rows filled, and the statuses seen.
-ghost use Rattle.core.specs.Prelude.{◌≡◌, slice_index_or, slice_set};
+ghost use Rattle.std.specs.Prelude.{◌≡◌, slice_index_or, slice_set};
 ghost use Rattle.machine.specs.Choice.{pick};
 ghost use Rattle.machine.specs.Store.{fresh_row};
 ghost use Rattle.turn.specs.Lent.{waits, rows_read, unseen, sees, seen, filled};

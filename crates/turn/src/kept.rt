@@ -1,5 +1,5 @@
 // The same calls with plain parameters, for who keeps eight rows in an array: the first M of them are lent as the desk.
-ghost use Rattle.core.specs.Prelude.{◌≡◌, take, drop};
+ghost use Rattle.std.specs.Prelude.{◌≡◌, take, drop};
 ghost use Rattle.machine.specs.Machine.{Meets, turning, starting, writer, collector};
 ghost use Rattle.machine.specs.Store.{parts};
 ghost use Rattle.turn.specs.Lent.{own_rows};

@@ -1,17 +1,17 @@
 // The public calls: start, write, collect. Each takes any numbers and any lent memory. The record, the desk, the fields and the colours
-// are lent; a call with plain parameters beside each is for who keeps eight rows in an array, and the calls by value in `core` are for who
+// are lent; a call with plain parameters beside each is for who keeps eight rows in an array, and the calls by value in `by_value` are for who
 // lends a desk of another form.
 #![tactic(auto)]
 
-ghost use Rattle.core.specs.Prelude.{◌≡◌};
+ghost use Rattle.std.specs.Prelude.{◌≡◌};
 ghost use Rattle.machine.specs.Machine.{Meets, turning, starting, writer, collector};
 ghost use Rattle.machine.specs.Store.{parts};
 
-pub mod core;
+pub mod by_value;
 pub mod desk;
 pub mod kept;
 
-use crate::core::{collect_core, start_core, write_core};
+use crate::by_value::{collect_core, start_core, write_core};
 use crate::desk::{blank_rows, put_row, row_or, survey_desk};
 use machine::{Answer, Call, Record, Row};
 

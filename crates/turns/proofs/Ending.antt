@@ -1,5 +1,5 @@
 -- From the turns by value to the exported calls: what each call concludes from its callees' promises.
-use Rattle.core.specs.Prelude.{◌≡◌, ℕ, ◌/◌, ◌<◌, Bool, true, false, not, eqb, List, ◌∷◌, length, get_or, take, set, replicate}
+use Rattle.std.specs.Prelude.{◌≡◌, ℕ, ◌/◌, ◌<◌, Bool, true, false, not, eqb, List, ◌∷◌, length, get_or, take, set, replicate}
 use mathlib.Core.Path.{refl, sym, ap, ◌∙◌}
 use native.Mathlib.Omega.{arith}
 use native.Mathlib.Decide.{dec_lt}

@@ -1,5 +1,5 @@
 -- What a conversion makes, of parts that are known by equations.
-use Rattle.core.specs.Prelude.{◌≡◌, ℕ, ◌+◌, List, [], ◌∷◌, ◌++◌, length, get_or, take, set}
+use Rattle.std.specs.Prelude.{◌≡◌, ℕ, ◌+◌, List, [], ◌∷◌, ◌++◌, length, get_or, take, set}
 use mathlib.Core.Path.{refl, sym, ap, ◌∙◌}
 use mathlib.Core.List.{append-nil}
 use native.Mathlib.Omega.{arith}

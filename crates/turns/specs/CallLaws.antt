@@ -1,5 +1,5 @@
 -- What the shape's test tells, and an answer's number: below 100 nothing has changed, and where the collector waited nothing has either.
-use Rattle.core.specs.Prelude.{◌≡◌, ℕ, ◌<◌, true, [], ◌∷◌, length, ◌≢◌}
+use Rattle.std.specs.Prelude.{◌≡◌, ℕ, ◌<◌, true, [], ◌∷◌, length, ◌≢◌}
 use Rattle.std.specs.Prelude.{refl}
 use Rattle.std.proofs.Common.{ap, arith, eqb-true}
 use Rattle.machine.specs.ChoiceLaws.{hold, refuse-cases}

@@ -1,5 +1,5 @@
 -- What each exported call does: the machine's call on the store that the plain numbers tell, and the numbers after it.
-use Rattle.core.specs.Prelude.{◌≡◌, ℕ, ◌%◌, Bool, List, [], ◌∷◌, length, ◌==◌, slice_index_or}
+use Rattle.std.specs.Prelude.{◌≡◌, ℕ, ◌%◌, Bool, List, [], ◌∷◌, length, ◌==◌, slice_index_or}
 use Rattle.machine.specs.Choice.{pick, every, refuse}
 use Rattle.machine.specs.Store.{Store, Outcome, parts, fresh_row, start}
 use Rattle.machine.specs.Census.{census}

@@ -1,5 +1,5 @@
 -- Each exported call fixes its outcome: of the answers and lent parts after it that its contract allows there is one.
-use Rattle.core.specs.Prelude.{◌≡◌, ℕ, List}
+use Rattle.std.specs.Prelude.{◌≡◌, ℕ, List}
 use Rattle.std.proofs.Common.{sym, ap, ◌∙◌}
 use Rattle.machine.specs.declared.Call.{Call}
 use Rattle.turns.specs.Calls.{Lent, Result, result, start_by, write_by, collect_by, Told, counted, census_by}

@@ -1,6 +1,6 @@
 -- Plain numbers and the machine's types, each made of the other: the record is nine numbers, a row 16 words, an answer a number. A number
 -- that does not fit its type becomes one that is out of range, whatever the others are.
-use Rattle.core.specs.Prelude.{◌≡◌, ℕ, zero, suc, ◌+◌, ◌*◌, ◌/◌, Bool, true, false, List, [], ◌∷◌, ◌++◌, length, take, drop, ◌==◌, nat_lt, slice_index}
+use Rattle.std.specs.Prelude.{◌≡◌, ℕ, zero, suc, ◌+◌, ◌*◌, ◌/◌, Bool, true, false, List, [], ◌∷◌, ◌++◌, length, take, drop, ◌==◌, nat_lt, slice_index}
 use Rattle.machine.specs.Choice.{pick}
 use Rattle.machine.specs.Parts.{slot_of}
 use Rattle.machine.specs.declared.Record.{Record}

@@ -1,6 +1,6 @@
 -- "A refusal returns its number and nothing else changes": a turn by value that is refused leaves the row, or the record, with fields and
 -- colours, and so does one of the collector that waits.
-use Rattle.core.specs.Prelude.{◌≡◌, ℕ, Bool, true, false, List, [], ◌∷◌, length, ◌==◌, nat_lt}
+use Rattle.std.specs.Prelude.{◌≡◌, ℕ, Bool, true, false, List, [], ◌∷◌, length, ◌==◌, nat_lt}
 use Rattle.std.proofs.Math.Path.{refl}
 use Rattle.std.proofs.lemmas.Bool.{false≢true}
 use Rattle.std.proofs.Common.{true≢false}

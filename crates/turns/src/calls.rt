@@ -1,6 +1,6 @@
 // The calls over plain numbers: the record and the rows that a turn reads are taken out, the turn is made by value, and what it changed is
 // written back.
-ghost use Rattle.core.specs.Prelude.{◌≡◌, ◌%◌, length, take, replicate};
+ghost use Rattle.std.specs.Prelude.{◌≡◌, ◌%◌, length, take, replicate};
 ghost use Rattle.machine.specs.Census.{census};
 ghost use Rattle.machine.specs.Machine.{write, collect};
 ghost use Rattle.machine.specs.Store.{fresh_row, start};
@@ -12,10 +12,10 @@ use crate::plain::{
     answer_number, copy_words, is_refused, put_record, put_rest, put_row, record_of, row_at,
     short_of, words_of,
 };
-use census::core::census_core;
+use census::by_value::census_core;
 use census::desk::{few, fresh_rows};
 use machine::{Call, Record, Report, Row, Survey};
-use turn::core::{collect_core, start_core, write_core};
+use turn::by_value::{collect_core, start_core, write_core};
 use turn::desk::{fresh_row, rows_read, sees, unseen};
 
 // A record of nine numbers and whole rows.

@@ -2,7 +2,7 @@
 // row of the desk as 16 words, and an answer is a number. include/turns.h names them. Every call takes any numbers and any lent memory.
 #![tactic(auto)]
 
-ghost use Rattle.core.specs.Prelude.{◌≡◌};
+ghost use Rattle.std.specs.Prelude.{◌≡◌};
 ghost use Rattle.machine.specs.declared.Call.{Call};
 ghost use Rattle.moves.specs.Bound.{c_max};
 ghost use Rattle.turns.specs.Calls.{lent, result, counted, start_by, write_by, collect_by, census_by};

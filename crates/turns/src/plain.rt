@@ -1,5 +1,5 @@
 // Plain numbers and the machine's types, each made of the other. A number that does not fit its type becomes one that is out of range.
-ghost use Rattle.core.specs.Prelude.{◌≡◌, ◌+◌, ◌≤◌, true, ◌++◌, length, take, drop, slice_index_or};
+ghost use Rattle.std.specs.Prelude.{◌≡◌, ◌+◌, ◌≤◌, true, ◌++◌, length, take, drop, slice_index_or};
 ghost use Rattle.machine.specs.Store.{fresh_row};
 ghost use Rattle.machine.specs.declared.Work.{Work};
 ghost use Rattle.turns.specs.Plain.{byte_of, word_of, hold_of, record_of, numbers_of, Standing, plan_of, look_of, outside, storing_of, creating_of, job_of, row_of, desk_of, plan_number, look_number, task_with, work_task, task_of, words_of, with_row, answer_number, is_refused};

@@ -1,7 +1,7 @@
 -- `census::census` meets its contract: a walk of its MIR, by hand, with no branch. The desk is given on to `gather`; the record is looked into and copied; and the copy, the rows, the fields and the colours are given on to `census_core`. All that it
 -- knows of the two is that each meets its contract; `Answers.antt` leads from there to the machine.
 -- Assumes nothing.
-use Rattle.core.specs.Prelude.{◌≡◌, ℕ, ◌^◌, ◌<◌, List, [], ◌∷◌, length, take}
+use Rattle.std.specs.Prelude.{◌≡◌, ℕ, ◌^◌, ◌<◌, List, [], ◌∷◌, length, take}
 use mathlib.Core.Path.{refl}
 use seplogic.Ra.Ura.{Ura}
 use mir.Syntax.{named, w64}
@@ -56,10 +56,10 @@ use Rattle.census.specs.contracts.desk.gather as gather
 use Rattle.census.proofs.desk.gather.Symbol as gather-def
 use Rattle.census.proofs.desk.gather.Symbol.{name as #gather}
 use Rattle.census.proofs.desk.gather.Met as gather-thm
-use Rattle.census.specs.contracts.core.census_core as core
-use Rattle.census.proofs.core.census_core.Symbol as core-def
-use Rattle.census.proofs.core.census_core.Symbol.{name as #census-core}
-use Rattle.census.proofs.core.census_core.Met as core-thm
+use Rattle.census.specs.contracts.by_value.census_core as core
+use Rattle.census.proofs.by_value.census_core.Symbol as core-def
+use Rattle.census.proofs.by_value.census_core.Symbol.{name as #census-core}
+use Rattle.census.proofs.by_value.census_core.Met as core-thm
 use Rattle.census.specs.contracts.census.Key.{name as #census}
 use Rattle.census.specs.contracts.census as f
 use Rattle.census.proofs.census.Statement as stated

@@ -1,7 +1,7 @@
 -- `turn::collect` meets its contract: a walk of its MIR, by hand, with no branch. The record's borrow is opened and the record is copied; the borrow stays open over the calls of `survey_desk`, to which the desk is given on with the copy, and of
 -- `collect_core`, to which the fields and the colours are given on; and it is closed at the record that the core gave back. All that it knows of the two is that each meets its contract; `Laws.antt` leads from there to the machine.
 -- Assumes nothing.
-use Rattle.core.specs.Prelude.{◌≡◌, ℕ, ◌^◌, ◌<◌, List, [], ◌∷◌, length}
+use Rattle.std.specs.Prelude.{◌≡◌, ℕ, ◌^◌, ◌<◌, List, [], ◌∷◌, length}
 use mathlib.Core.Path.{refl, ◌∙◌, ap}
 use seplogic.Ra.Ura.{Ura}
 use seplogic.Ra.TreeShare.{full_share}
@@ -62,10 +62,10 @@ use Rattle.turn.specs.contracts.desk.survey_desk as survey-desk
 use Rattle.turn.proofs.desk.survey_desk.Symbol as survey-desk-def
 use Rattle.turn.proofs.desk.survey_desk.Symbol.{name as #survey-desk}
 use Rattle.turn.proofs.desk.survey_desk.Met as survey-desk-thm
-use Rattle.turn.specs.contracts.core.collect_core as core
-use Rattle.turn.proofs.core.collect_core.Symbol as core-def
-use Rattle.turn.proofs.core.collect_core.Symbol.{name as #collect-core}
-use Rattle.turn.proofs.core.collect_core.Met as core-thm
+use Rattle.turn.specs.contracts.by_value.collect_core as core
+use Rattle.turn.proofs.by_value.collect_core.Symbol as core-def
+use Rattle.turn.proofs.by_value.collect_core.Symbol.{name as #collect-core}
+use Rattle.turn.proofs.by_value.collect_core.Met as core-thm
 use Rattle.turn.specs.contracts.collect.Key.{name as #collect}
 use Rattle.turn.specs.contracts.collect as f
 use Rattle.turn.proofs.collect.Statement as stated

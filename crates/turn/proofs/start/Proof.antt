@@ -1,7 +1,7 @@
 -- `turn::start` meets its contract: a walk of its MIR, by hand, with no branch. The record's borrow is opened and the record copied; the fields and the colours are given on to `start_core`, and the desk to `blank_rows`, with the core's word whether to go;
 -- the record's borrow is closed at the record that the core gave back, which is the old one where the core refuses.
 -- Assumes nothing.
-use Rattle.core.specs.Prelude.{◌≡◌, ℕ, ◌^◌, ◌<◌, List, [], ◌∷◌, length}
+use Rattle.std.specs.Prelude.{◌≡◌, ℕ, ◌^◌, ◌<◌, List, [], ◌∷◌, length}
 use mathlib.Core.Path.{refl, ap}
 use seplogic.Ra.Ura.{Ura}
 use seplogic.Ra.TreeShare.{full_share}
@@ -56,10 +56,10 @@ use Rattle.turn.proofs.Walking.{unit_typed}
 use Rattle.machine.specs.contracts.Answer as Answer'
 use Rattle.turn.specs.contracts.Started as Sta
 use Rattle.turn.proofs.Started.TheLaws as Sta'
-use Rattle.turn.specs.contracts.core.start_core as core
-use Rattle.turn.proofs.core.start_core.Symbol as core-def
-use Rattle.turn.proofs.core.start_core.Symbol.{name as #start-core}
-use Rattle.turn.proofs.core.start_core.Met as core-thm
+use Rattle.turn.specs.contracts.by_value.start_core as core
+use Rattle.turn.proofs.by_value.start_core.Symbol as core-def
+use Rattle.turn.proofs.by_value.start_core.Symbol.{name as #start-core}
+use Rattle.turn.proofs.by_value.start_core.Met as core-thm
 use Rattle.turn.specs.contracts.desk.blank_rows as blank-rows
 use Rattle.turn.proofs.desk.blank_rows.Symbol as blank-rows-def
 use Rattle.turn.proofs.desk.blank_rows.Symbol.{name as #blank-rows}

@@ -1,7 +1,7 @@
 -- `turn::write` meets its contract: a walk of its MIR, by hand, with no branch. The desk is lent to `row_or` as a `&` for a lifetime of the call and comes back; the record is looked into and copied; the fields and the colours are given on to
 -- `write_core` for good, at their own lifetimes; and the desk is given on to `put_row`. All that it knows of the three is that each meets its contract; `Laws.write_meets` leads from there to the machine.
 -- Assumes nothing.
-use Rattle.core.specs.Prelude.{◌≡◌, ℕ, ◌^◌, ◌<◌, List, [], ◌∷◌, length, get_or, set}
+use Rattle.std.specs.Prelude.{◌≡◌, ℕ, ◌^◌, ◌<◌, List, [], ◌∷◌, length, get_or, set}
 use mathlib.Core.Path.{refl, ◌∙◌, ap}
 use native.Mathlib.Omega.{arith}
 use seplogic.Ra.Ura.{Ura}
@@ -63,10 +63,10 @@ use Rattle.turn.specs.contracts.desk.row_or as row-or
 use Rattle.turn.proofs.desk.row_or.Symbol as row-or-def
 use Rattle.turn.proofs.desk.row_or.Symbol.{name as #row-or}
 use Rattle.turn.proofs.desk.row_or.Met as row-or-thm
-use Rattle.turn.specs.contracts.core.write_core as core
-use Rattle.turn.proofs.core.write_core.Symbol as core-def
-use Rattle.turn.proofs.core.write_core.Symbol.{name as #write-core}
-use Rattle.turn.proofs.core.write_core.Met as core-thm
+use Rattle.turn.specs.contracts.by_value.write_core as core
+use Rattle.turn.proofs.by_value.write_core.Symbol as core-def
+use Rattle.turn.proofs.by_value.write_core.Symbol.{name as #write-core}
+use Rattle.turn.proofs.by_value.write_core.Met as core-thm
 use Rattle.turn.specs.contracts.desk.put_row as put-row
 use Rattle.turn.proofs.desk.put_row.Symbol as put-row-def
 use Rattle.turn.proofs.desk.put_row.Symbol.{name as #put-row}

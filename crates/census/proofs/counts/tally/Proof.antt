@@ -1,4 +1,4 @@
-use Rattle.core.specs.Prelude.{◌-◌, ◌≤◌, length}
+use Rattle.std.specs.Prelude.{◌-◌, ◌≤◌, length}
 use native.Mathlib.Omega.{arith}
 use Rattle.census.specs.Counting.{Tallied}
 use Rattle.census.proofs.Counting.{tally-start, tally-few, tally-more, tally-end}

@@ -1,7 +1,7 @@
 -- `census::desk::gather` meets its contract: a walk of its MIR, by hand, with a loop over a `&[Row]`. Three covered functions are called: `few` says how many rows are copied, `fresh_rows` gives eight rows, and `with_row` writes one of them. The
 -- invariant: the first i of the eight rows are the desk's. In a turn of the loop the slice is looked into, one row is read, the slice is shut, and `with_row` is called with the row.
 -- Assumes nothing.
-use Rattle.core.specs.Prelude.{◌≡◌, ℕ, ◌+◌, ◌-◌, ◌^◌, ◌<◌, ◌≤◌, List, [], ◌∷◌, length, get_or, take, set, replicate}
+use Rattle.std.specs.Prelude.{◌≡◌, ℕ, ◌+◌, ◌-◌, ◌^◌, ◌<◌, ◌≤◌, List, [], ◌∷◌, length, get_or, take, set, replicate}
 use mathlib.Core.Path.{refl, sym, ◌∙◌, ap}
 use mathlib.Core.Option.{none, some as just}
 use mathlib.Core.WellFounded.InvImage

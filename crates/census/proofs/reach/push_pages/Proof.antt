@@ -1,4 +1,4 @@
-use Rattle.core.specs.Prelude.{◌-◌, ◌≤◌}
+use Rattle.std.specs.Prelude.{◌-◌, ◌≤◌}
 use borrow.Author.Rules.{rules}
 use native.Mathlib.Omega.{arith}
 use Rattle.machine.specs.Census.{pages}

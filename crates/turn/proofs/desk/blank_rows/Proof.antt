@@ -1,7 +1,7 @@
 -- `turn::desk::blank_rows` meets its contract: a walk of its MIR, by hand, with a loop over a `&mut [Row]`. The invariant: the slice is owned, closed, at the list whose first i rows are fresh. In a turn the borrow is opened, one element is
 -- stored to, and the borrow is closed.
 -- Assumes nothing.
-use Rattle.core.specs.Prelude.{◌≡◌, ℕ, zero, suc, ◌+◌, ◌-◌, ◌<◌, ◌≤◌, Bool, true, false, List, [], ◌∷◌, length, set, replicate}
+use Rattle.std.specs.Prelude.{◌≡◌, ℕ, zero, suc, ◌+◌, ◌-◌, ◌<◌, ◌≤◌, Bool, true, false, List, [], ◌∷◌, length, set, replicate}
 use mathlib.Core.Path.{refl, sym, ◌∙◌, ap, subst}
 use mathlib.Core.Option.{none, some as just}
 use mathlib.Core.WellFounded.InvImage

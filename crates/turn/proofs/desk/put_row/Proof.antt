@@ -1,6 +1,6 @@
 -- `turn::desk::put_row` meets its contract: a walk of its MIR, by hand, with a branch. In one arm the borrow is opened, one element is stored to, and the borrow is closed at the list with the row in it; in the other nothing happens, and the list is the one that `set` gives past its end.
 -- Assumes nothing.
-use Rattle.core.specs.Prelude.{◌≡◌, ℕ, ◌^◌, ◌<◌, List, [], ◌∷◌, length, set}
+use Rattle.std.specs.Prelude.{◌≡◌, ℕ, ◌^◌, ◌<◌, List, [], ◌∷◌, length, set}
 use mathlib.Core.Path.{refl, sym, ap, subst}
 use lib.ListN.{length-set}
 use lib.Seq.{set_out}

@@ -1,6 +1,6 @@
 -- `turn::desk::row_or` meets its contract: a walk of its MIR, by hand, with a branch. In one arm the slice is looked into and one element is read; in the other a covered function is called. What follows the branch is walked once in each arm.
 -- Assumes nothing.
-use Rattle.core.specs.Prelude.{◌≡◌, ℕ, ◌^◌, ◌<◌, List, [], ◌∷◌, length, get_or}
+use Rattle.std.specs.Prelude.{◌≡◌, ℕ, ◌^◌, ◌<◌, List, [], ◌∷◌, length, get_or}
 use mathlib.Core.Path.{refl, sym, ◌∙◌}
 use lib.ListN.{get_or-eq_default}
 use lib.Dec.{ltb→lt, nltb→le}

@@ -1,7 +1,7 @@
 -- `turn::desk::survey_desk` meets its contract: a walk of its MIR, by hand, with a loop over a `&[Row]`. Three covered functions are called: `rows_read` says how many rows are read, `unseen` gives the first survey, and `sees` takes one row more. The
 -- invariant: i rows are seen, and `s` is what they come to. In a turn of the loop the slice is looked into, one row is read, the slice is shut, and `sees` is called with the row.
 -- Assumes nothing.
-use Rattle.core.specs.Prelude.{◌≡◌, ℕ, ◌+◌, ◌-◌, ◌<◌, ◌≤◌, List, [], ◌∷◌, length, get_or, take}
+use Rattle.std.specs.Prelude.{◌≡◌, ℕ, ◌+◌, ◌-◌, ◌<◌, ◌≤◌, List, [], ◌∷◌, length, get_or, take}
 use mathlib.Core.Path.{refl, sym, ◌∙◌, ap}
 use mathlib.Core.Option.{none, some as just}
 use mathlib.Core.WellFounded.InvImage

@@ -1,7 +1,7 @@
 -- `turn::kept::collect_kept` meets its contract: a walk of its MIR, by hand, with no branch. A covered function says how many rows are the desk's. Two locals are lent for two lifetimes of the call of `collect`: a record, as a `&mut Record`, and that many
 -- rows of an array, as a `&[Row]`. The record's cell comes back at the record that `collect` left, and the array's as it was. A covered function puts the answer, the record and the rows together.
 -- Assumes nothing.
-use Rattle.core.specs.Prelude.{◌≡◌, ℕ, List, [], ◌∷◌, length, take}
+use Rattle.std.specs.Prelude.{◌≡◌, ℕ, List, [], ◌∷◌, length, take}
 use mathlib.Core.Path.{refl, sym, ◌∙◌, ap}
 use seplogic.Ra.Ura.{Ura}
 use seplogic.Ra.TreeShare.{full_share}

@@ -1,7 +1,7 @@
 -- `turn::kept::start_kept` meets its contract: a walk of its MIR, by hand, with no branch. `own_rows` says how many rows are the desk, k of eight. Two locals are lent for two lifetimes of the call of `start`: a record, as a `&mut Record`, and the first
 -- k rows of an array, as a `&mut [Row]`. Both come back: the record's cell at the record that `start` left, and the array's at the rows that it left, then the others. The covered `keep` puts the answer, the record and the rows together.
 -- Assumes nothing.
-use Rattle.core.specs.Prelude.{◌≡◌, ℕ, ◌^◌, ◌<◌, List, [], ◌∷◌, ◌++◌, length, take, drop as drop-list}
+use Rattle.std.specs.Prelude.{◌≡◌, ℕ, ◌^◌, ◌<◌, List, [], ◌∷◌, ◌++◌, length, take, drop as drop-list}
 use mathlib.Core.Path.{refl, sym, ◌∙◌, ap}
 use seplogic.Ra.Ura.{Ura}
 use seplogic.Ra.TreeShare.{full_share}

@@ -1,7 +1,7 @@
 -- `turn::kept::write_kept` meets its contract: a walk of its MIR, by hand, with no branch. A covered function says how many of the eight rows are the desk. Two locals are lent for two lifetimes of the call of `write`: the first of the rows, as a
 -- `&mut [Row]`, and the record, as a `&Record`. Both come back: the array's cell at the rows that `write` left, then the others, and the record's as it was. A covered function puts the answer, the record and the rows together.
 -- Assumes nothing.
-use Rattle.core.specs.Prelude.{◌≡◌, ℕ, ◌^◌, ◌<◌, List, [], ◌∷◌, ◌++◌, length, take, drop as drop-list}
+use Rattle.std.specs.Prelude.{◌≡◌, ℕ, ◌^◌, ◌<◌, List, [], ◌∷◌, ◌++◌, length, take, drop as drop-list}
 use mathlib.Core.Path.{refl, sym, ◌∙◌, ap}
 use seplogic.Ra.Ura.{Ura}
 use seplogic.Ra.TreeShare.{full_share}

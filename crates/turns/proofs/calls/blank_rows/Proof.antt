@@ -1,4 +1,4 @@
-use Rattle.core.specs.Prelude.{◌-◌, length}
+use Rattle.std.specs.Prelude.{◌-◌, length}
 use borrow.Author.Rules.{rules}
 use Rattle.turns.proofs.Blanking.{Blanking, blanks}
 use Rattle.turns.proofs.calls.blank_rows.Statement.{statement}

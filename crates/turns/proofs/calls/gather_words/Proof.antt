@@ -1,4 +1,4 @@
-use Rattle.core.specs.Prelude.{◌-◌}
+use Rattle.std.specs.Prelude.{◌-◌}
 use borrow.Author.Rules.{rules}
 use Rattle.turns.proofs.Gathering.{Gathering, gathers}
 use Rattle.turns.proofs.calls.gather_words.Statement.{statement}

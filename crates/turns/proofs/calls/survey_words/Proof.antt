@@ -1,4 +1,4 @@
-use Rattle.core.specs.Prelude.{◌-◌}
+use Rattle.std.specs.Prelude.{◌-◌}
 use borrow.Author.Rules.{rules}
 use Rattle.turns.proofs.Surveying.{Surveying, surveys}
 use Rattle.turns.proofs.calls.survey_words.Statement.{statement}

@@ -1,4 +1,4 @@
-use Rattle.core.specs.Prelude.{◌-◌}
+use Rattle.std.specs.Prelude.{◌-◌}
 use borrow.Author.Rules.{rules}
 use Rattle.turns.proofs.Copying.{Copying, copies}
 use Rattle.turns.proofs.plain.copy_words.Statement.{statement}

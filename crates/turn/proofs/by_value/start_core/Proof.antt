@@ -3,8 +3,8 @@ use Rattle.turn.proofs.Sizes.{sizes}
 use Rattle.turn.proofs.Beginning.{begins}
 use Rattle.cells.proofs.Refusing.{refusals}
 use Rattle.turn.specs.Lent.{beginning}
-use Rattle.turn.proofs.core.start_core.Statement.{statement}
-use Rattle.turn.proofs.core.start_core.Tie as tie
+use Rattle.turn.proofs.by_value.start_core.Statement.{statement}
+use Rattle.turn.proofs.by_value.start_core.Tie as tie
 
 pub start_core_spec : {M : Type 1} → statement M
 unfolding beginning

@@ -1,5 +1,5 @@
 // The calls by value: sizes first (1), then the writer (3), then the turn.
-ghost use Rattle.core.specs.Prelude.{◌≡◌, ◌-◌, ◌≤◌, ◌++◌, length, replicate, nat_lt};
+ghost use Rattle.std.specs.Prelude.{◌≡◌, ◌-◌, ◌≤◌, ◌++◌, length, replicate, nat_lt};
 ghost use Rattle.machine.specs.Choice.{pick};
 ghost use Rattle.machine.specs.Limits.{none};
 ghost use Rattle.machine.specs.Store.{fresh_record};

@@ -1,10 +1,10 @@
-use Rattle.core.specs.Prelude.{◌≡◌, ◌-◌, ◌≤◌, length, drop}
+use Rattle.std.specs.Prelude.{◌≡◌, ◌-◌, ◌≤◌, length, drop}
 use borrow.Author.Rules.{rules}
 use Rattle.machine.specs.Choice.{all}
 use Rattle.machine.specs.Range.{colour_ok}
 use Rattle.cells.proofs.Looping.{alls}
-use Rattle.census.proofs.core.colours_ok.Statement.{statement}
-use Rattle.census.proofs.core.colours_ok.Tie as tie
+use Rattle.census.proofs.by_value.colours_ok.Statement.{statement}
+use Rattle.census.proofs.by_value.colours_ok.Tie as tie
 
 abbrev invariant-loop : tie.invariant-loop
 invariant-loop colours i₀ i = (i ≤ length colours) × (all colour_ok colours ≡ all colour_ok (drop i colours))

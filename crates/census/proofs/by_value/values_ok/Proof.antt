@@ -1,10 +1,10 @@
-use Rattle.core.specs.Prelude.{◌≡◌, ◌-◌, ◌≤◌, length, drop}
+use Rattle.std.specs.Prelude.{◌≡◌, ◌-◌, ◌≤◌, length, drop}
 use borrow.Author.Rules.{rules}
 use Rattle.machine.specs.Choice.{all}
 use Rattle.machine.specs.Range.{value_ok}
 use Rattle.cells.proofs.Looping.{alls}
-use Rattle.census.proofs.core.values_ok.Statement.{statement}
-use Rattle.census.proofs.core.values_ok.Tie as tie
+use Rattle.census.proofs.by_value.values_ok.Statement.{statement}
+use Rattle.census.proofs.by_value.values_ok.Tie as tie
 
 abbrev invariant-loop : tie.invariant-loop
 invariant-loop n values i₀ i = (i ≤ length values) × (all (value_ok n) values ≡ all (value_ok n) (drop i values))

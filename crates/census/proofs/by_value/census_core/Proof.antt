@@ -3,8 +3,8 @@ use Rattle.turn.proofs.Sizes.{sized}
 use Rattle.cells.proofs.Refusing.{refusals}
 use Rattle.census.specs.Counting.{census_by}
 use Rattle.census.proofs.Sizes.{told-few, counted}
-use Rattle.census.proofs.core.census_core.Statement.{statement}
-use Rattle.census.proofs.core.census_core.Tie as tie
+use Rattle.census.proofs.by_value.census_core.Statement.{statement}
+use Rattle.census.proofs.by_value.census_core.Tie as tie
 
 pub census_core_spec : {M : Type 1} → statement M
 unfolding census_by

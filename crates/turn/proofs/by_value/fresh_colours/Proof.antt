@@ -1,8 +1,8 @@
-use Rattle.core.specs.Prelude.{◌-◌, length}
+use Rattle.std.specs.Prelude.{◌-◌, length}
 use borrow.Author.Rules.{rules}
 use Rattle.turn.proofs.Filling.{Filling, colours as colours-of, fillings}
-use Rattle.turn.proofs.core.fresh_colours.Statement.{statement}
-use Rattle.turn.proofs.core.fresh_colours.Tie as tie
+use Rattle.turn.proofs.by_value.fresh_colours.Statement.{statement}
+use Rattle.turn.proofs.by_value.fresh_colours.Tie as tie
 
 abbrev invariant-loop : tie.invariant-loop
 invariant-loop colours₀ g i₀ colours i = Filling colours₀ (colours-of g (length colours₀)) colours i

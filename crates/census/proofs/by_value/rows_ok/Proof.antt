@@ -1,10 +1,10 @@
-use Rattle.core.specs.Prelude.{◌≡◌, ◌-◌, ◌≤◌, length, take, drop}
+use Rattle.std.specs.Prelude.{◌≡◌, ◌-◌, ◌≤◌, length, take, drop}
 use borrow.Author.Rules.{rules}
 use Rattle.machine.specs.Choice.{all}
 use Rattle.machine.specs.Range.{row_ok}
 use Rattle.census.proofs.Looping.{rows_all}
-use Rattle.census.proofs.core.rows_ok.Statement.{statement}
-use Rattle.census.proofs.core.rows_ok.Tie as tie
+use Rattle.census.proofs.by_value.rows_ok.Statement.{statement}
+use Rattle.census.proofs.by_value.rows_ok.Tie as tie
 
 abbrev invariant-loop : tie.invariant-loop
 invariant-loop n rows own i₀ i = (i ≤ rows) × (rows ≤ length own) × (all (row_ok n) (take rows own) ≡ all (row_ok n) (drop i (take rows own)))

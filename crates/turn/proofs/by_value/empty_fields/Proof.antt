@@ -1,8 +1,8 @@
-use Rattle.core.specs.Prelude.{◌-◌, length}
+use Rattle.std.specs.Prelude.{◌-◌, length}
 use borrow.Author.Rules.{rules}
 use Rattle.turn.proofs.Filling.{Filling, empty, fillings}
-use Rattle.turn.proofs.core.empty_fields.Statement.{statement}
-use Rattle.turn.proofs.core.empty_fields.Tie as tie
+use Rattle.turn.proofs.by_value.empty_fields.Statement.{statement}
+use Rattle.turn.proofs.by_value.empty_fields.Tie as tie
 
 abbrev invariant-loop : tie.invariant-loop
 invariant-loop fields₀ i₀ fields i = Filling fields₀ (empty fields₀) fields i

@@ -1,5 +1,5 @@
 // The census by value: sizes first (1), then what is in range (2), then the counts.
-ghost use Rattle.core.specs.Prelude.{◌≡◌, ◌≤◌, take};
+ghost use Rattle.std.specs.Prelude.{◌≡◌, ◌≤◌, take};
 ghost use Rattle.machine.specs.Choice.{all};
 ghost use Rattle.machine.specs.Range.{row_ok, value_ok, colour_ok};
 ghost use Rattle.census.specs.Counting.{census_by};

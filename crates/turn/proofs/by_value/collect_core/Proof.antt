@@ -3,8 +3,8 @@ use Rattle.collector.proofs.Ends.{ends}
 use Rattle.turn.proofs.Sizes.{sizes}
 use Rattle.cells.proofs.Refusing.{refusals}
 use Rattle.turn.specs.Lent.{collecting}
-use Rattle.turn.proofs.core.collect_core.Statement.{statement}
-use Rattle.turn.proofs.core.collect_core.Tie as tie
+use Rattle.turn.proofs.by_value.collect_core.Statement.{statement}
+use Rattle.turn.proofs.by_value.collect_core.Tie as tie
 
 pub collect_core_spec : {M : Type 1} → statement M
 unfolding collecting

@@ -3,8 +3,8 @@ use Rattle.turn.proofs.Sizes.{sizes}
 use Rattle.cells.proofs.Refusing.{refusals}
 use Rattle.writer.proofs.Arms.{turns}
 use Rattle.turn.specs.Lent.{writing}
-use Rattle.turn.proofs.core.write_core.Statement.{statement}
-use Rattle.turn.proofs.core.write_core.Tie as tie
+use Rattle.turn.proofs.by_value.write_core.Statement.{statement}
+use Rattle.turn.proofs.by_value.write_core.Tie as tie
 
 pub write_core_spec : {M : Type 1} → statement M
 unfolding writing
