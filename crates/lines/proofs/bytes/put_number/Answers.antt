@@ -23,6 +23,10 @@ pub put_bytes-requires : goal.put_bytes-requires
 unfolding decimal
 put_bytes-requires c = search spelt-room
 
-pub returns : goal.returns
+pub returns-clause-wrote : goal.returns-clause-wrote
 unfolding decimal
-returns c = (search spelt, search spelt-short)
+returns-clause-wrote c = search spelt
+
+pub returns-clause-upper_bound : goal.returns-clause-upper_bound
+unfolding decimal
+returns-clause-upper_bound c = search spelt-short

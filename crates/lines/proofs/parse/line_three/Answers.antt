@@ -3,10 +3,18 @@ use Rattle.lines.specs.Lines.{line_three}
 use Rattle.cells.proofs.Choosing.{picks}
 use Rattle.lines.proofs.parse.line_three.Goals as goal
 
-pub is-requires-2 : goal.is-requires-2
+pub returns-then-is : goal.returns-then-is
 unfolding line_three
-is-requires-2 c = search picks
+returns-then-is c = search picks
+
+pub returns-then-is-2 : goal.returns-then-is-2
+unfolding line_three
+returns-then-is-2 c = search picks
 
 pub returns-then-is-3 : goal.returns-then-is-3
 unfolding line_three
 returns-then-is-3 c = search picks
+
+pub returns : goal.returns
+unfolding line_three
+returns c = search picks

@@ -4,10 +4,10 @@ use Rattle.lines.specs.Output.{word_text, said_text}
 use Rattle.lines.proofs.Written.{at_report}
 use Rattle.lines.proofs.print.put_census.Goals as goal
 
-pub returns-in-Counted : goal.returns-in-Counted
+pub returns-in-Counted-clause-wrote : goal.returns-in-Counted-clause-wrote
 unfolding said_by_census word_text said_text
-returns-in-Counted c = (search at_report, search rules)
+returns-in-Counted-clause-wrote c = search at_report
 
-pub returns-in-Refused : goal.returns-in-Refused
+pub returns-in-Refused-clause-wrote : goal.returns-in-Refused-clause-wrote
 unfolding said_by_census word_text said_text
-returns-in-Refused c = (search at_report, search rules)
+returns-in-Refused-clause-wrote c = search at_report

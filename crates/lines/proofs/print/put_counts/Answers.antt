@@ -3,6 +3,6 @@ use Rattle.lines.specs.Output.{parted}
 use Rattle.lines.proofs.Written.{also}
 use Rattle.lines.proofs.print.put_counts.Goals as goal
 
-pub returns : goal.returns
+pub returns-clause-wrote : goal.returns-clause-wrote
 unfolding parted
-returns c = (search also depth 8, search rules)
+returns-clause-wrote c = search also depth 8

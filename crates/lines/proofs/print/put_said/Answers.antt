@@ -4,14 +4,22 @@ use Rattle.lines.specs.Output.{word_text, said_text}
 use Rattle.lines.proofs.Written.{at-answer}
 use Rattle.lines.proofs.print.put_said.Goals as goal
 
-pub returns-in-Worked : goal.returns-in-Worked
+pub returns-in-Worked-clause-wrote : goal.returns-in-Worked-clause-wrote
 unfolding said_by word_text said_text
-returns-in-Worked c = (search at-answer, search rules)
+returns-in-Worked-clause-wrote c = search at-answer
 
-pub returns-in-Waited : goal.returns-in-Waited
+pub returns-in-Waited-clause-wrote : goal.returns-in-Waited-clause-wrote
 unfolding said_by word_text said_text
-returns-in-Waited c = (search at-answer, search rules)
+returns-in-Waited-clause-wrote c = search at-answer
 
-pub returns-in-Refused : goal.returns-in-Refused
+pub returns-in-Refused-clause-wrote : goal.returns-in-Refused-clause-wrote
 unfolding said_by word_text said_text
-returns-in-Refused c = (search at-answer, search rules)
+returns-in-Refused-clause-wrote c = search at-answer
+
+pub returns-in-Done-clause-wrote : goal.returns-in-Done-clause-wrote
+unfolding said_by word_text said_text
+returns-in-Done-clause-wrote c = search at-answer
+
+pub returns-in-More-clause-wrote : goal.returns-in-More-clause-wrote
+unfolding said_by word_text said_text
+returns-in-More-clause-wrote c = search at-answer

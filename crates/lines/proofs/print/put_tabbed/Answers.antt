@@ -3,6 +3,6 @@ use Rattle.lines.specs.Output.{tabbed}
 use Rattle.lines.proofs.Written.{also}
 use Rattle.lines.proofs.print.put_tabbed.Goals as goal
 
-pub returns : goal.returns
+pub returns-clause-wrote : goal.returns-clause-wrote
 unfolding tabbed
-returns c = (search also depth 8, search rules)
+returns-clause-wrote c = search also depth 8
