@@ -25,7 +25,7 @@ use Rattle.turn.proofs.Laws.{write_meets, collect-meets, start-meets}
 use Rattle.census.specs.Counting.{census_by as countedBy}
 use Rattle.census.proofs.Answers.{census-meets}
 use Rattle.turns.specs.Plain.{record_of, numbers_of, Standing, desk_of, row_words, with_row, answer_number, is_refused}
-use Rattle.turns.specs.Calls.{Lent, lent, store_of, shaped, Shaped, result, ended, made, all_after, row_after, record_after, Told, told}
+use Rattle.turns.specs.Calls.{Lent, lent, store_of, shaped, Shaped, result_of, ended, made, all_after, row_after, record_after, Told, told}
 use Rattle.turns.specs.PlainLaws.{sizes-exact}
 use Rattle.turns.specs.CallLaws.{shape_fits}
 use Rattle.turns.proofs.Desk.{desk-length}
@@ -37,11 +37,11 @@ fits numbers words t says on = shape_fits numbers words (sym says ∙ not-false 
 
 -- ---- how a call ends that gives the answer a and leaves the store `after`: refused, or with what is put
 module _ (call : Store → Outcome Answer) (put : Lent → Store → Lent) (p : Lent) (a : Answer) (after : Store) (k : ℕ) (is : outcome a after ≡ call (store_of p)) (number : k ≡ answer_number a) where
-  refused_end : is_refused a ≡ true → result k p ≡ made call put p
+  refused_end : is_refused a ≡ true → result_of k p ≡ made call put p
   unfolding made ended
   refused_end h = rw (← is) (rw (h, number) refl)
 
-  put-end : is_refused a ≡ false → result k (put p after) ≡ made call put p
+  put-end : is_refused a ≡ false → result_of k (put p after) ≡ made call put p
   unfolding made ended
   put-end h = rw (← is) (rw (h, number) refl)
 
@@ -80,14 +80,14 @@ module _ (numbers words fs cs : List ℕ) where
         (turn_is ∙ rw (rec-is, row_is, desk-length words) refl) refl)
 
     pub write-refused : (b : Bool) (k : ℕ) → b ≡ is_refused t.answer → b ≡ true → k ≡ answer_number t.answer
-        → result k (lent numbers words fs' cs') ≡ made (write w call) (row_after w) p
+        → result_of k (lent numbers words fs' cs') ≡ made (write w call) (row_after w) p
     write-refused b k h on e =
         let same = write-still rec row fs cs (length words / 16) w call (ap (λ (o : Written). is_refused o.turn.answer) (sym turn_is) ∙ sym h ∙ on) in
         rw (ap (λ (o : Written). o.fields) turn_is ∙ same.1, ap (λ (o : Written). o.colours) turn_is ∙ same.2)
         (refused_end (write w call) (row_after w) p t.answer after_write k write_is e (sym h ∙ on))
 
     pub write-put : (b : Bool) (k : ℕ) (words' : List ℕ) → b ≡ is_refused t.answer → b ≡ false → words' ≡ with_row words w t.row → k ≡ answer_number t.answer
-        → result k (lent numbers words' fs' cs') ≡ made (write w call) (row_after w) p
+        → result_of k (lent numbers words' fs' cs') ≡ made (write w call) (row_after w) p
     write-put b k words' h on d e =
         rw (d ∙ put-there words w t.row) (put-end (write w call) (row_after w) p t.answer after_write k write_is e (sym h ∙ on))
 
@@ -103,7 +103,7 @@ module _ (numbers words fs cs : List ℕ) where
         (collect-meets (record_of numbers) (desk_of words) fs cs t cs' (turn_is ∙ rw (seen-is, rec-is, desk-length words) refl))
 
     pub collect-refused : (b : Bool) (k : ℕ) → b ≡ is_refused t.answer → b ≡ true → k ≡ answer_number t.answer
-        → result k (lent numbers words fs cs') ≡ made collect record_after p
+        → result_of k (lent numbers words fs cs') ≡ made collect record_after p
     collect-refused b k h on e =
         let same = collect-same rec s fs cs (length words / 16) (refused-idles _ (ap (λ (o : Collected). is_refused o.turn.answer) (sym turn_is) ∙ sym h ∙ on)) in
         rw (ap (λ (o : Collected). o.colours) turn_is ∙ same.1)
@@ -116,7 +116,7 @@ module _ (numbers words fs cs : List ℕ) where
         sizes-exact numbers t.rec nine (rw rec-is at k.0) (ap (λ (r : Record). r.n) same ∙ k.1 ∙ rw rec-is) (ap (λ (r : Record). r.g) same ∙ k.2 ∙ rw rec-is) (ap (λ (r : Record). r.m) same ∙ k.3 ∙ rw rec-is)
 
     pub collect-put : (b : Bool) (k : ℕ) (numbers' : List ℕ) → b ≡ is_refused t.answer → b ≡ false → numbers' ≡ numbers_of t.rec → k ≡ answer_number t.answer
-        → result k (lent numbers' words fs cs') ≡ made collect record_after p
+        → result_of k (lent numbers' words fs cs') ≡ made collect record_after p
     collect-put b k numbers' h on d e =
         rw d (put-end collect record_after p t.answer after-collect k collect_is e (sym h ∙ on))
 
@@ -132,7 +132,7 @@ module _ (numbers words fs cs : List ℕ) where
         λ i. record { answer = answer-said t.answer (start n g m st).answer m'.says i; store = m'.leaves i }
 
     pub start-refused : (b : Bool) (k : ℕ) → b ≡ is_refused t.answer → b ≡ true → k ≡ answer_number t.answer
-        → result k (lent numbers words fs' cs') ≡ made (start n g m) all_after p
+        → result_of k (lent numbers words fs' cs') ≡ made (start n g m) all_after p
     start-refused b k h on e =
         let same = start-still n g m rec (length words / 16) fs cs (ap (λ (o : Begun). is_refused o.started.answer) (sym turn_is) ∙ sym h ∙ on) in
         rw (ap (λ (o : Begun). o.fields) turn_is ∙ same.0, ap (λ (o : Begun). o.colours) turn_is ∙ same.1)
@@ -144,7 +144,7 @@ module _ (numbers words fs cs : List ℕ) where
         rw (ap (λ (o : Begun). o.started.go) turn_is ∙ start_goes n g m rec (length words / 16) fs cs (ap (λ (o : Begun). is_refused o.started.answer) (sym turn_is) ∙ h))
 
     pub start-put : (b : Bool) (k : ℕ) (numbers' words' : List ℕ) → b ≡ is_refused t.answer → b ≡ false → words' ≡ row_words (replicate (length (desk_of words)) fresh_row) → numbers' ≡ numbers_of t.rec → k ≡ answer_number t.answer
-        → result k (lent numbers' words' fs' cs') ≡ made (start n g m) all_after p
+        → result_of k (lent numbers' words' fs' cs') ≡ made (start n g m) all_after p
     start-put b k numbers' words' h on d f e =
         rw (f, d ∙ ap row_words (sym (fills (sym h ∙ on)))) (put-end (start n g m) all_after p t.answer after-start k start_is e (sym h ∙ on))
 

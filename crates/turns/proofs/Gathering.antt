@@ -25,7 +25,7 @@ module _ (words : List ℕ) (n : ℕ) (own : List Row) (i : ℕ) (k : Gathering 
     rows = k.rows;
     eight = k.eight;
     few = omega arith;
-    copied = copied_more (desk_of words) i own (set own i r) k.copied (omega (arith, k.eight)) (omega (arith, k.rows, own-le (length words / 16), desk-length words)) (ap (set own i) e);
+    copied = copied_more (desk_of words) fresh_row i own (set own i r) k.copied (omega (arith, k.eight)) (omega (arith, k.rows, own-le (length words / 16), desk-length words)) (ap (set own i) e);
   }
 
   pub gather_end : n ≤ i → take (own_rows (length (desk_of words))) own ≡ take (own_rows (length (desk_of words))) (desk_of words)

@@ -42,7 +42,7 @@ module _ (rec : Record) (words : List ℕ) (n : ℕ) (s : Survey) (i : ℕ) (k :
     reads = k.reads;
     below = k.below;
     few = omega arith;
-    saw = d ∙ same-status s rec row (get_or (desk_of words) i fresh_row) (e ∙ sym (status-at words i (omega (arith, k.below)))) ∙ seen_more rec (desk_of words) i s (omega (arith, desk-length words, k.below)) k.saw;
+    saw = d ∙ same-status s rec row (get_or (desk_of words) i fresh_row) (e ∙ sym (status-at words i (omega (arith, k.below)))) ∙ seen_more rec (desk_of words) fresh_row i s (omega (arith, desk-length words, k.below)) k.saw;
   }
 
   pub survey-end : n ≤ i → s ≡ seen rec (desk_of words)

@@ -38,12 +38,12 @@ pub record Result : Type 0 where
   pub answer : ℕ
   pub after : Lent
 
-abbrev pub result : ℕ → Lent → Result
-result answer after = record { answer = answer; after = after }
+abbrev pub result_of : ℕ → Lent → Result
+result_of answer after = record { answer = answer; after = after }
 
 -- "A refusal returns its number and nothing else changes."
 unfoldable pub ended : Lent → Lent → Answer → Result
-ended before after a = result (answer_number a) (pick (is_refused a) before after)
+ended before after a = result_of (answer_number a) (pick (is_refused a) before after)
 
 -- one of the machine's calls; `put` writes what the machine's store is after it
 unfoldable pub made : (Store → Outcome Answer) → (Lent → Store → Lent) → Lent → Result
@@ -52,7 +52,7 @@ made call put p = ended p (put p (call (store_of p)).store) (call (store_of p)).
 -- the same, where the shape fits
 unfoldable pub called : (Store → Outcome Answer) → (Lent → Store → Lent) → Lent → Result
 called call put p =
-    refuse (λ k. result k p) ((shaped (length p.numbers) (length p.desk), 1) ∷ []) (made call put p)
+    refuse (λ k. result_of k p) ((shaped (length p.numbers) (length p.desk), 1) ∷ []) (made call put p)
 
 -- start: the record and every row are written
 abbrev pub all_after : Lent → Store → Lent

@@ -6,7 +6,7 @@ ghost use Rattle.machine.specs.Machine.{write, collect};
 ghost use Rattle.machine.specs.Store.{fresh_row, start};
 ghost use Rattle.turn.specs.Lent.{seen, own_rows};
 ghost use Rattle.turns.specs.Plain.{byte_of, desk_of, row_words};
-ghost use Rattle.turns.specs.Calls.{shaped, Shaped, lent, store_of, result, made, all_after, row_after, record_after, start_by, write_by, collect_by, counted, told, census_by};
+ghost use Rattle.turns.specs.Calls.{shaped, Shaped, lent, store_of, result_of, made, all_after, row_after, record_after, start_by, write_by, collect_by, counted, told, census_by};
 
 use crate::plain::{
     answer_number, copy_words, is_refused, put_record, put_rest, put_row, record_of, row_at,
@@ -20,7 +20,7 @@ use turn::desk::{fresh_row, rows_read, sees, unseen};
 
 // A record of nine numbers and whole rows.
 fn shaped(numbers: usize, words: usize) -> bool
-    ensures* { λ r. ⌜ r ≡ shaped numbers words ⌝ }
+    ensures { result ≡ shaped numbers words }
 {
     if numbers != 9 {
         return false;
@@ -31,7 +31,7 @@ fn shaped(numbers: usize, words: usize) -> bool
 // Every row is written as start leaves it.
 fn blank_rows(desk: &mut [u16])
     requires { length desk.old % 16 ≡ 0 }
-    ensures* { λ _. ⌜ desk.new ≡ row_words (replicate (length (desk_of desk.old)) fresh_row) ⌝ }
+    ensures { desk.new ≡ row_words (replicate (length (desk_of desk.old)) fresh_row) }
 {
     let words = words_of(fresh_row());
     let mut at: usize = 0;
@@ -52,8 +52,8 @@ fn start_shaped(
     m: u32,
 ) -> u32
     requires { Shaped (length numbers.old) (length desk.old) }
-    ensures* { λ k. ⌜ result k (lent numbers.new desk.new fields.new colours.new)
-        ≡ made (start n g m) all_after (lent numbers.old desk.old fields.old colours.old) ⌝ }
+    ensures { result_of result (lent numbers.new desk.new fields.new colours.new)
+        ≡ made (start n g m) all_after (lent numbers.old desk.old fields.old colours.old) }
 {
     let rec = record_of(numbers);
     let rows = desk.len() / 16;
@@ -77,8 +77,8 @@ pub fn start_words(
     g: u32,
     m: u32,
 ) -> u32
-    ensures* { λ k. ⌜ result k (lent numbers.new desk.new fields.new colours.new)
-        ≡ start_by n g m (lent numbers.old desk.old fields.old colours.old) ⌝ }
+    ensures { result_of result (lent numbers.new desk.new fields.new colours.new)
+        ≡ start_by n g m (lent numbers.old desk.old fields.old colours.old) }
 {
     if !shaped(numbers.len(), desk.len()) {
         return 1;
@@ -96,8 +96,8 @@ fn write_shaped(
     call: Call,
 ) -> u32
     requires { Shaped (length numbers.now) (length desk.old) }
-    ensures* { λ k. ⌜ result k (lent numbers.now desk.new fields.new colours.new)
-        ≡ made (write w call) (row_after w) (lent numbers.now desk.old fields.old colours.old) ⌝ }
+    ensures { result_of result (lent numbers.now desk.new fields.new colours.new)
+        ≡ made (write w call) (row_after w) (lent numbers.now desk.old fields.old colours.old) }
 {
     let rec = record_of(numbers);
     let rows = desk.len() / 16;
@@ -121,8 +121,8 @@ pub fn write_words(
     w: u32,
     call: Call,
 ) -> u32
-    ensures* { λ k. ⌜ result k (lent numbers.now desk.new fields.new colours.new)
-        ≡ write_by w call (lent numbers.now desk.old fields.old colours.old) ⌝ }
+    ensures { result_of result (lent numbers.now desk.new fields.new colours.new)
+        ≡ write_by w call (lent numbers.now desk.old fields.old colours.old) }
 {
     if !shaped(numbers.len(), desk.len()) {
         return 1;
@@ -132,7 +132,7 @@ pub fn write_words(
 
 // A row of which only the status is known, for a waiting test.
 fn status_row(status: u16) -> Row
-    ensures* { λ r. ⌜ r.status ≡ byte_of status ⌝ }
+    ensures { result.status ≡ byte_of status }
 {
     let mut row = fresh_row();
     row.status = short_of(status);
@@ -141,7 +141,7 @@ fn status_row(status: u16) -> Row
 
 // The statuses that this turn of the collector reads, in a loop.
 fn survey_words(desk: &[u16], rec: Record) -> Survey
-    ensures* { λ r. ⌜ r ≡ seen rec (desk_of desk.now) ⌝ }
+    ensures { result ≡ seen rec (desk_of desk.now) }
 {
     let n = rows_read(rec, desk.len() / 16);
     let mut s = unseen();
@@ -156,8 +156,8 @@ fn survey_words(desk: &[u16], rec: Record) -> Survey
 // A turn of the collector, where the shape fits: the record is written if the turn is not refused.
 fn collect_shaped(numbers: &mut [u32], desk: &[u16], fields: &[u16], colours: &mut [u8]) -> u32
     requires { Shaped (length numbers.old) (length desk.now) }
-    ensures* { λ k. ⌜ result k (lent numbers.new desk.now fields.now colours.new)
-        ≡ made collect record_after (lent numbers.old desk.now fields.now colours.old) ⌝ }
+    ensures { result_of result (lent numbers.new desk.now fields.now colours.new)
+        ≡ made collect record_after (lent numbers.old desk.now fields.now colours.old) }
 {
     let rec = record_of(numbers);
     let rows = desk.len() / 16;
@@ -173,8 +173,8 @@ fn collect_shaped(numbers: &mut [u32], desk: &[u16], fields: &[u16], colours: &m
 
 // A turn of the collector.
 pub fn collect_words(numbers: &mut [u32], desk: &[u16], fields: &[u16], colours: &mut [u8]) -> u32
-    ensures* { λ k. ⌜ result k (lent numbers.new desk.now fields.now colours.new)
-        ≡ collect_by (lent numbers.old desk.now fields.now colours.old) ⌝ }
+    ensures { result_of result (lent numbers.new desk.now fields.now colours.new)
+        ≡ collect_by (lent numbers.old desk.now fields.now colours.old) }
 {
     if !shaped(numbers.len(), desk.len()) {
         return 1;
@@ -184,7 +184,7 @@ pub fn collect_words(numbers: &mut [u32], desk: &[u16], fields: &[u16], colours:
 
 // The rows of the desk, or the first eight where it has more, and fresh rows after them.
 fn gather_words(desk: &[u16]) -> [Row; 8]
-    ensures* { λ r. ⌜ take (own_rows (length (desk_of desk.now))) r ≡ take (own_rows (length (desk_of desk.now))) (desk_of desk.now) ⌝ }
+    ensures { take (own_rows (length (desk_of desk.now))) result ≡ take (own_rows (length (desk_of desk.now))) (desk_of desk.now) }
 {
     let n = few(desk.len() / 16);
     let mut own = fresh_rows();
@@ -199,7 +199,7 @@ fn gather_words(desk: &[u16]) -> [Row; 8]
 // The six counts are written, or left; and the answer's number.
 fn tell(counts: &mut [u32], report: Report) -> u32
     requires { length counts.old ≡ 6 }
-    ensures* { λ k. ⌜ counted k counts.new ≡ told counts.old report ⌝ }
+    ensures { counted result counts.new ≡ told counts.old report }
 {
     match report {
         Report::Counted(c) => {
@@ -225,8 +225,8 @@ fn census_shaped(
 ) -> u32
     requires shaped { Shaped (length numbers.now) (length desk.now) }
     requires counts_len { length counts.old ≡ 6 }
-    ensures* { λ k. ⌜ counted k counts.new
-        ≡ told counts.old (census (store_of (lent numbers.now desk.now fields.now colours.now))).answer ⌝ }
+    ensures { counted result counts.new
+        ≡ told counts.old (census (store_of (lent numbers.now desk.now fields.now colours.now))).answer }
 {
     let rec = record_of(numbers);
     let rows = desk.len() / 16;
@@ -242,8 +242,8 @@ pub fn census_words(
     colours: &[u8],
     counts: &mut [u32],
 ) -> u32
-    ensures* { λ k. ⌜ counted k counts.new
-        ≡ census_by (lent numbers.now desk.now fields.now colours.now) counts.old ⌝ }
+    ensures { counted result counts.new
+        ≡ census_by (lent numbers.now desk.now fields.now colours.now) counts.old }
 {
     if !shaped(numbers.len(), desk.len()) {
         return 1;

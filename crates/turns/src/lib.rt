@@ -5,7 +5,7 @@
 ghost use Rattle.std.specs.Prelude.{◌≡◌};
 ghost use Rattle.machine.specs.declared.Call.{Call};
 ghost use Rattle.moves.specs.Bound.{c_max};
-ghost use Rattle.turns.specs.Calls.{lent, result, counted, start_by, write_by, collect_by, census_by};
+ghost use Rattle.turns.specs.Calls.{lent, result_of, counted, start_by, write_by, collect_by, census_by};
 
 mod calls;
 mod plain;
@@ -15,8 +15,7 @@ use machine::Call;
 use moves::cycle_bound;
 
 // Start: everything is filled.
-#[unsafe(no_mangle)]
-pub extern "C" fn turns_lent_start(
+pub fn turns_lent_start(
     numbers: &mut [u32],
     desk: &mut [u16],
     fields: &mut [u16],
@@ -25,15 +24,14 @@ pub extern "C" fn turns_lent_start(
     g: u32,
     m: u32,
 ) -> u32
-    ensures* { λ k. ⌜ result k (lent numbers.new desk.new fields.new colours.new)
-        ≡ start_by n g m (lent numbers.old desk.old fields.old colours.old) ⌝ }
+    ensures { result_of result (lent numbers.new desk.new fields.new colours.new)
+        ≡ start_by n g m (lent numbers.old desk.old fields.old colours.old) }
 {
     start_words(numbers, desk, fields, colours, n, g, m)
 }
 
 // Puts page p in slot s of writer w.
-#[unsafe(no_mangle)]
-pub extern "C" fn turns_lent_page(
+pub fn turns_lent_page(
     numbers: &[u32],
     desk: &mut [u16],
     fields: &mut [u16],
@@ -42,15 +40,14 @@ pub extern "C" fn turns_lent_page(
     p: u32,
     s: u32,
 ) -> u32
-    ensures* { λ k. ⌜ result k (lent numbers.now desk.new fields.new colours.new)
-        ≡ write_by w (Call.Page p s) (lent numbers.now desk.old fields.old colours.old) ⌝ }
+    ensures { result_of result (lent numbers.now desk.new fields.new colours.new)
+        ≡ write_by w (Call.Page p s) (lent numbers.now desk.old fields.old colours.old) }
 {
     write_words(numbers, desk, fields, colours, w, Call::Page(p, s))
 }
 
 // Copies slot r to slot s.
-#[unsafe(no_mangle)]
-pub extern "C" fn turns_lent_copy(
+pub fn turns_lent_copy(
     numbers: &[u32],
     desk: &mut [u16],
     fields: &mut [u16],
@@ -59,15 +56,14 @@ pub extern "C" fn turns_lent_copy(
     r: u32,
     s: u32,
 ) -> u32
-    ensures* { λ k. ⌜ result k (lent numbers.now desk.new fields.new colours.new)
-        ≡ write_by w (Call.Copy r s) (lent numbers.now desk.old fields.old colours.old) ⌝ }
+    ensures { result_of result (lent numbers.now desk.new fields.new colours.new)
+        ≡ write_by w (Call.Copy r s) (lent numbers.now desk.old fields.old colours.old) }
 {
     write_words(numbers, desk, fields, colours, w, Call::Copy(r, s))
 }
 
 // Empties slot r.
-#[unsafe(no_mangle)]
-pub extern "C" fn turns_lent_drop(
+pub fn turns_lent_drop(
     numbers: &[u32],
     desk: &mut [u16],
     fields: &mut [u16],
@@ -75,15 +71,14 @@ pub extern "C" fn turns_lent_drop(
     w: u32,
     r: u32,
 ) -> u32
-    ensures* { λ k. ⌜ result k (lent numbers.now desk.new fields.new colours.new)
-        ≡ write_by w (Call.Drop r) (lent numbers.now desk.old fields.old colours.old) ⌝ }
+    ensures { result_of result (lent numbers.now desk.new fields.new colours.new)
+        ≡ write_by w (Call.Drop r) (lent numbers.now desk.old fields.old colours.old) }
 {
     write_words(numbers, desk, fields, colours, w, Call::Drop(r))
 }
 
 // Puts field f of the cell in slot r into slot s.
-#[unsafe(no_mangle)]
-pub extern "C" fn turns_lent_read(
+pub fn turns_lent_read(
     numbers: &[u32],
     desk: &mut [u16],
     fields: &mut [u16],
@@ -93,15 +88,14 @@ pub extern "C" fn turns_lent_read(
     f: u32,
     s: u32,
 ) -> u32
-    ensures* { λ k. ⌜ result k (lent numbers.now desk.new fields.new colours.new)
-        ≡ write_by w (Call.Read r f s) (lent numbers.now desk.old fields.old colours.old) ⌝ }
+    ensures { result_of result (lent numbers.now desk.new fields.new colours.new)
+        ≡ write_by w (Call.Read r f s) (lent numbers.now desk.old fields.old colours.old) }
 {
     write_words(numbers, desk, fields, colours, w, Call::Read(r, f, s))
 }
 
 // Starts to store slot q into field f of the cell in slot r.
-#[unsafe(no_mangle)]
-pub extern "C" fn turns_lent_store(
+pub fn turns_lent_store(
     numbers: &[u32],
     desk: &mut [u16],
     fields: &mut [u16],
@@ -111,15 +105,14 @@ pub extern "C" fn turns_lent_store(
     f: u32,
     q: u32,
 ) -> u32
-    ensures* { λ k. ⌜ result k (lent numbers.now desk.new fields.new colours.new)
-        ≡ write_by w (Call.Store r f q) (lent numbers.now desk.old fields.old colours.old) ⌝ }
+    ensures { result_of result (lent numbers.now desk.new fields.new colours.new)
+        ≡ write_by w (Call.Store r f q) (lent numbers.now desk.old fields.old colours.old) }
 {
     write_words(numbers, desk, fields, colours, w, Call::Store(r, f, q))
 }
 
 // Starts to create a cell into slot s.
-#[unsafe(no_mangle)]
-pub extern "C" fn turns_lent_create(
+pub fn turns_lent_create(
     numbers: &[u32],
     desk: &mut [u16],
     fields: &mut [u16],
@@ -127,83 +120,77 @@ pub extern "C" fn turns_lent_create(
     w: u32,
     s: u32,
 ) -> u32
-    ensures* { λ k. ⌜ result k (lent numbers.now desk.new fields.new colours.new)
-        ≡ write_by w (Call.Create s) (lent numbers.now desk.old fields.old colours.old) ⌝ }
+    ensures { result_of result (lent numbers.now desk.new fields.new colours.new)
+        ≡ write_by w (Call.Create s) (lent numbers.now desk.old fields.old colours.old) }
 {
     write_words(numbers, desk, fields, colours, w, Call::Create(s))
 }
 
 // Answers the handshake that is posted.
-#[unsafe(no_mangle)]
-pub extern "C" fn turns_lent_answer(
+pub fn turns_lent_answer(
     numbers: &[u32],
     desk: &mut [u16],
     fields: &mut [u16],
     colours: &mut [u8],
     w: u32,
 ) -> u32
-    ensures* { λ k. ⌜ result k (lent numbers.now desk.new fields.new colours.new)
-        ≡ write_by w Call.Answer (lent numbers.now desk.old fields.old colours.old) ⌝ }
+    ensures { result_of result (lent numbers.now desk.new fields.new colours.new)
+        ≡ write_by w Call.Answer (lent numbers.now desk.old fields.old colours.old) }
 {
     write_words(numbers, desk, fields, colours, w, Call::Answer)
 }
 
 // The next turn of the writer's job.
-#[unsafe(no_mangle)]
-pub extern "C" fn turns_lent_next(
+pub fn turns_lent_next(
     numbers: &[u32],
     desk: &mut [u16],
     fields: &mut [u16],
     colours: &mut [u8],
     w: u32,
 ) -> u32
-    ensures* { λ k. ⌜ result k (lent numbers.now desk.new fields.new colours.new)
-        ≡ write_by w Call.Next (lent numbers.now desk.old fields.old colours.old) ⌝ }
+    ensures { result_of result (lent numbers.now desk.new fields.new colours.new)
+        ≡ write_by w Call.Next (lent numbers.now desk.old fields.old colours.old) }
 {
     write_words(numbers, desk, fields, colours, w, Call::Next)
 }
 
 // A turn of the collector.
-#[unsafe(no_mangle)]
-pub extern "C" fn turns_lent_collect(
+pub fn turns_lent_collect(
     numbers: &mut [u32],
     desk: &[u16],
     fields: &[u16],
     colours: &mut [u8],
 ) -> u32
-    ensures* { λ k. ⌜ result k (lent numbers.new desk.now fields.now colours.new)
-        ≡ collect_by (lent numbers.old desk.now fields.now colours.old) ⌝ }
+    ensures { result_of result (lent numbers.new desk.now fields.now colours.new)
+        ≡ collect_by (lent numbers.old desk.now fields.now colours.old) }
 {
     collect_words(numbers, desk, fields, colours)
 }
 
 // The census: its six counts are written, or left.
-#[unsafe(no_mangle)]
-pub extern "C" fn turns_lent_census(
+pub fn turns_lent_census(
     numbers: &[u32],
     desk: &[u16],
     fields: &[u16],
     colours: &[u8],
     counts: &mut [u32],
 ) -> u32
-    ensures* { λ k. ⌜ counted k counts.new
-        ≡ census_by (lent numbers.now desk.now fields.now colours.now) counts.old ⌝ }
+    ensures { counted result counts.new
+        ≡ census_by (lent numbers.now desk.now fields.now colours.now) counts.old }
 {
     census_words(numbers, desk, fields, colours, counts)
 }
 
 // The most working turns that a cycle takes.
-#[unsafe(no_mangle)]
-pub extern "C" fn turns_cycle_bound(n: u16, g: u16) -> u64
-    ensures* { λ c. ⌜ c ≡ c_max n g ⌝ }
+pub fn turns_cycle_bound(n: u16, g: u16) -> u64
+    ensures { result ≡ c_max n g }
 {
     cycle_bound(n, g)
 }
 
 // The version that this archive and include/turns.h are of: 10,000 × major + 100 × minor + patch.
-#[unsafe(no_mangle)]
-pub extern "C" fn turns_version() -> u32
-    ensures* { λ v. ⌜ v ≡ 200 ⌝ }
+pub fn turns_version() -> u32
+    ensures { result ≡ 200 }
 {
     200
 }

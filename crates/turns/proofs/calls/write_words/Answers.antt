@@ -1,0 +1,17 @@
+use borrow.Author.Rules.{rules}
+use Rattle.cells.proofs.Refusing.{refusals}
+use Rattle.turns.specs.Calls.{called}
+use Rattle.turns.proofs.Ending.{fits}
+use Rattle.turns.proofs.calls.write_words.Goals as goal
+
+pub returns-then-not-shaped : goal.returns-then-not-shaped
+unfolding called
+returns-then-not-shaped c = search refusals depth 10 fits 9000
+
+pub write_shaped-requires : goal.write_shaped-requires
+unfolding called
+write_shaped-requires c = search fits
+
+pub returns : goal.returns
+unfolding called
+returns c = search refusals depth 10 fits 9000

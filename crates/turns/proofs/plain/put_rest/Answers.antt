@@ -1,0 +1,8 @@
+use lib.ListN.{length-set}
+use native.Mathlib.Omega.{arith}
+use borrow.Author.Rules.{rules}
+use Rattle.turns.proofs.Making.{puts}
+use Rattle.turns.proofs.plain.put_rest.Goals as goal
+
+pub returns : goal.returns
+returns c = search puts

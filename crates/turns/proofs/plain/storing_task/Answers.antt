@@ -1,0 +1,6 @@
+use borrow.Author.Rules.{rules}
+use Rattle.turns.proofs.Making.{makes}
+use Rattle.turns.proofs.plain.storing_task.Goals as goal
+
+pub returns : goal.returns
+returns c = search makes
