@@ -5,7 +5,8 @@ use Rattle.std.proofs.Math.Path.{fun_ext}
 use Rattle.std.proofs.Math.Decide.{dec_lt, ℕ_discrete}
 use Rattle.std.proofs.Math.ListN.{get_or-eq_default}
 use Rattle.std.proofs.Math.Seq.{set_out}
-use Rattle.moves.specs.Base.{upd, upd_case, upd2, upd2-same, upd2_other}
+use Rattle.moves.specs.Base.{upd, upd2}
+use Rattle.moves.proofs.Base.{upd_case, upd2-same, upd2_other}
 use Rattle.moves.specs.Moves.{work}
 use Rattle.moves.specs.Machine as Abstract
 use Rattle.moves.specs.Moves.{Move, stage', after}

@@ -2,7 +2,8 @@
 use Rattle.std.specs.Prelude.{ℕ, zero, suc, ◌+◌, ◌≡◌, refl, List, [], ◌∷◌, eqb}
 use Rattle.std.proofs.Common.{sym, ◌∙◌, ap, inl, inr, arith, ne_eqb}
 use Rattle.moves.specs.Machine as Abstract
-use Rattle.moves.specs.Moves.{counted, count-after}
+use Rattle.moves.specs.Moves.{counted}
+use Rattle.moves.proofs.Moves.{count-after}
 use Rattle.machine.specs.Choice.{pick}
 use Rattle.machine.specs.Store.{Store, Outcome, fresh}
 use Rattle.machine.specs.Machine.{Turn, turn}

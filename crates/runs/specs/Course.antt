@@ -5,7 +5,7 @@ use mathlib.Core.List.{List, [], ◌∷◌, ◌++◌}
 use Rattle.std.proofs.lemmas.List.{get_or-replicate, length-replicate}
 use Rattle.std.proofs.Math.ListN.{get_or-append, get_or-eq_default}
 use Rattle.moves.specs.Machine as Abstract
-use Rattle.moves.specs.Moves.{same-N, same-g}
+use Rattle.moves.proofs.Moves.{same-N, same-g}
 use Rattle.moves.specs.Run.{IsStart, Run, start, then}
 use Rattle.machine.specs.Limits.{none}
 use Rattle.machine.specs.Store.{Store, Outcome, fresh_row, fresh}

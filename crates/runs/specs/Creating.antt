@@ -6,7 +6,8 @@ use Rattle.std.proofs.Math.Logic.{inl}
 use Rattle.std.proofs.Math.Decide.{dec_lt, ℕ_discrete}
 use Rattle.std.proofs.Math.ListN.{length, get_or, get_or-eq_default}
 use Rattle.std.proofs.Math.Seq.{set_out}
-use Rattle.moves.specs.Base.{upd, upd_case}
+use Rattle.moves.specs.Base.{upd}
+use Rattle.moves.proofs.Base.{upd_case}
 use Rattle.moves.specs.Machine as Abstract
 use Rattle.moves.specs.Writing as Writing
 use Rattle.moves.specs.Moves.{by-writer}

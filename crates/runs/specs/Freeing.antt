@@ -7,7 +7,8 @@ use mathlib.Core.List.{List, [], ◌∷◌, ◌++◌}
 use Rattle.std.proofs.Math.Decide.{ℕ_discrete}
 use Rattle.moves.specs.Machine as Abstract
 use Rattle.moves.specs.Moves.{close}
-use Rattle.moves.specs.Run.{IsStart, run-inv}
+use Rattle.moves.specs.Run.{IsStart}
+use Rattle.moves.proofs.Run.{run-inv}
 use Rattle.moves.specs.Fate as Fate
 use Rattle.machine.specs.Store.{Store, Outcome, fresh}
 use Rattle.machine.specs.Machine.{Turn, turn}

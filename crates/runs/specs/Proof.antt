@@ -2,7 +2,7 @@
 use Rattle.std.specs.Prelude.{ℕ, ◌≡◌, true, List}
 use Rattle.std.proofs.Common.{leb-true}
 use Rattle.moves.specs.Run.{IsStart}
-use Rattle.moves.specs.Reach.{safety}
+use Rattle.moves.proofs.Reach.{safety}
 use Rattle.machine.specs.ChoiceLaws.{hold}
 use Rattle.machine.specs.Limits.{limits_ok}
 use Rattle.machine.specs.Store.{fresh}
