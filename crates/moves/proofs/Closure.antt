@@ -7,7 +7,7 @@ use Rattle.moves.specs.Machine.{Stage, rest, ask1, ask2, roots, scan, sweep, Job
 use Rattle.moves.specs.Machine.{set_count}
 use Rattle.moves.specs.Rows.{job_name}
 use Rattle.moves.proofs.Colours.{shade_up, shade-dark}
-use Rattle.moves.specs.Closure.{floor, Live, StatusFits, JobFits, Open, RowOK, Closed, recolour}
+use Rattle.moves.specs.Closure.{floor, Live, StatusFits, JobFits, Open, RowOK, Closed}
 
 -- a dark cell is always live
 pub floor-small : (σ : Stage) (i : ℕ) → floor σ i ≤ 2
@@ -55,6 +55,10 @@ closed-row {σ} {s} c w r h = record {
   «open» = c.open;
   rows = upd_case (λ j q. j < s.M → RowOK σ s.N s.colour q) s.rows w r (λ _. h) (λ j n l. c.rows j l);
 }
+
+-- a store with other colours and another count
+abbrev recolour : St → (ℕ → ℕ) → ℕ → St
+recolour s c k = record { N = s.N; g = s.g; M = s.M; colour = c; field = s.field; rows = s.rows; count = k }
 
 -- colours, stage and count change, what is live does not, and each row fits the new stage
 pub closed-by : {σ : Stage} {s : St} → Closed σ s → (σ' : Stage) (c' : ℕ → ℕ) (k : ℕ)

@@ -86,7 +86,3 @@ pub record Closed (σ : Stage) (s : St) : Type 0 where
   pub fields : (x f : ℕ) → Live σ s.colour x → f < 4 → Live σ s.colour (s.field x f)
   pub rows : (w : ℕ) → w < s.M → RowOK σ s.N s.colour (s.rows w)
   pub «open» : Open σ s.colour
-
--- a store with other colours and another count
-abbrev pub recolour : St → (ℕ → ℕ) → ℕ → St
-recolour s c k = record { N = s.N; g = s.g; M = s.M; colour = c; field = s.field; rows = s.rows; count = k }
