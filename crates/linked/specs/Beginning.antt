@@ -10,8 +10,8 @@ use Rattle.machine.specs.Store.{outcome, fits, fresh, start}
 use Rattle.machine.specs.Machine.{Turn, starting, outcome_of, Meets}
 use Rattle.machine.specs.Run.{run}
 use Rattle.machine.specs.declared.Answer.TheVariants.{Done}
-use Rattle.runs.specs.Course.{good}
-use Rattle.runs.specs.RangeRun.{run_in_range}
+use Rattle.runs.proofs.Course.{good}
+use Rattle.runs.proofs.RangeRun.{run_in_range}
 use Rattle.turns.specs.Plain.{answer_number, is_refused}
 use Rattle.turns.specs.Calls.{Lent, store_of, shaped, Result, result, ended, made, called, all_after, start_by}
 use Rattle.linked.specs.Tellable.{Tellable, in_range-tellable}

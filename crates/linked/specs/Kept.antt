@@ -9,7 +9,7 @@ use Rattle.machine.specs.Store.{Store, Outcome}
 use Rattle.machine.specs.Machine.{write, collect, Turn, writer, collector, turn}
 use Rattle.machine.specs.declared.Call.{Call}
 use Rattle.machine.specs.declared.Answer.{Answer}
-use Rattle.runs.specs.Abs.{fit}
+use Rattle.runs.proofs.Abs.{fit}
 use Rattle.turns.specs.Plain.{record_of, answer_number, is_refused}
 use Rattle.turns.specs.Calls.{Lent, store_of, shaped, Result, result, ended, made, called, row_after, record_after}
 use Rattle.turns.proofs.Desk.{desk-length}

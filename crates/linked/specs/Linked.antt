@@ -9,7 +9,8 @@ use Rattle.machine.specs.Run.{run, working_turns, C}
 use Rattle.machine.specs.declared.Answer.{Answer}
 use Rattle.machine.specs.declared.Answer.TheVariants.{Done, More, Worked, Waited, Refused}
 use Rattle.runs.specs.Demand3.{Reachable, Free, Takes}
-use Rattle.runs.specs.Site.{Promised, played-run, promised}
+use Rattle.runs.specs.Site.{Promised}
+use Rattle.runs.proofs.Site.{played-run, promised}
 use Rattle.turns.specs.Plain.{record_of, answer_number}
 use Rattle.turns.specs.Calls.{Lent, store_of, result, start_by}
 use Rattle.linked.specs.Called.{turn_by, Called, after_all, calls}

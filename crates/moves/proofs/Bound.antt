@@ -147,7 +147,7 @@ pub run-bound : {s₀ : St} → IsStart s₀ → s₀.count ≡ 0 → {σ : Stag
 run-bound S z start = omega arith
 run-bound S z (then r m) = bound (run-inv S r) (run-bound S z r) m
 
--- a move of the collector keeps them in range
+-- a move of the collector keeps the place and the part in range
 placed-collecting : {s : St} {σ : Stage} → Placed σ s.N s.g → (m : Collecting s σ)
     → Placed (next-stage m) (collected m).N (collected m).g
 placed-collecting h opening = tt

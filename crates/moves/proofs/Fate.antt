@@ -46,7 +46,7 @@ worked : {s : St} {σ : Stage} (W a : ℕ) → BoundIn σ s → W ≤ a * c_max 
 worked W a B h (by-writer m) = let z = writing-leaves m in rw (z.0, z.1, z.2) (omega (arith, h))
 worked W a B h (by-collector m) = worked-collecting W a B h m
 
--- it holds as long as x is not freed
+-- what holds of a garbage cell x (`Lingering`) holds as long as x is not freed
 later : {x : ℕ} {σ₀ : Stage} {s₀ : St} → Lingering x 0 0 σ₀ s₀ → {W a : ℕ} {σ : Stage} {s : St} → Later x σ₀ s₀ W a σ s
     → Lingering x W a σ s
 later D now = D

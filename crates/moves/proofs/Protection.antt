@@ -10,7 +10,7 @@ use Rattle.moves.specs.Writing.{plan_of, first_phase, after_old}
 use Rattle.moves.specs.Rows.{job_name, job_tag}
 use Rattle.moves.specs.Protection.{Source, Unread, OldAt, OldIs, Solid, GuardIn, dark, source, edge, Guard, RowGuard, Guarded}
 
--- a weaker property
+-- what is asked of a row, of a weaker property
 pub row-map : {Q R : ℕ → Type 0} {r : Row} → ((v : ℕ) → Q v → R v) → RowGuard Q r → RowGuard R r
 row-map m h = record {
   slots = λ e k l. m _ (h.slots e k l);

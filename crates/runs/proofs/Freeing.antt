@@ -17,8 +17,9 @@ use Rattle.machine.specs.Run.{run, works, working_turns, C}
 use Rattle.machine.specs.declared.Answer.{Answer}
 use Rattle.runs.specs.Abs.{stage_in, abs, Steps}
 use Rattle.runs.specs.Demand3.{Reachable, Free}
-use Rattle.runs.specs.Course.{turn-moves, Good, good_turn, good-run, good}
-use Rattle.runs.specs.Reaching.{reached}
+use Rattle.runs.specs.Course.{Good}
+use Rattle.runs.proofs.Course.{turn-moves, good_turn, good-run, good}
+use Rattle.runs.proofs.Reaching.{reached}
 
 -- after a first part of these turns x is free
 abbrev Freed : ℕ → Store → List Turn → Type 0

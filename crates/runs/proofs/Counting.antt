@@ -11,7 +11,8 @@ use Rattle.machine.specs.Run.{run, works, since_opening}
 use Rattle.machine.specs.declared.Answer.{Answer}
 use Rattle.machine.specs.declared.Answer.TheVariants.{Done, More, Worked, Waited, Refused}
 use Rattle.runs.specs.Abs.{stage_at, stage_in, Steps}
-use Rattle.runs.specs.Course.{turn-moves, Good, good_turn, good-fresh}
+use Rattle.runs.specs.Course.{Good}
+use Rattle.runs.proofs.Course.{turn-moves, good_turn, good-fresh}
 
 -- the count after an answer in stage t, k before it
 abbrev counts : Answer → ℕ → ℕ → ℕ
