@@ -13,7 +13,7 @@ use Rattle.machine.specs.declared.Answer.TheVariants.{Done}
 use Rattle.runs.proofs.Course.{good}
 use Rattle.runs.proofs.RangeRun.{run_in_range}
 use Rattle.turns.specs.Plain.{answer_number, is_refused}
-use Rattle.turns.specs.Calls.{Lent, store_of, shaped, Result, result, ended, made, called, all_after, start_by}
+use Rattle.turns.specs.Calls.{Lent, store_of, shaped, Result, result_of, ended, made, called, all_after, start_by}
 use Rattle.linked.specs.Tellable.{Tellable}
 use Rattle.linked.proofs.Tellable.{in_range-tellable}
 use Rattle.linked.specs.Telling.{Tells}
@@ -27,7 +27,7 @@ run-tellable n g m e ts = in_range-tellable (run (fresh n g m) ts) (run_in_range
 module _ (n g m : ℕ) (p : Lent) where
   -- start by its two tests
   start-by : (a b : Bool) → shaped (length p.numbers) (length p.desk) ≡ a → fits n g m (store_of p) ≡ b
-      → start_by n g m p ≡ pick a (pick b (result 100 (all_after p (fresh n g m))) (result 1 p)) (result 1 p)
+      → start_by n g m p ≡ pick a (pick b (result_of 100 (all_after p (fresh n g m))) (result_of 1 p)) (result_of 1 p)
   unfolding called made ended refuse start answer_number is_refused
   start-by true true e d = rw (e, d) refl
   start-by true false e d = rw (e, d) refl
@@ -53,10 +53,10 @@ module _ (n g m : ℕ) (p : Lent) where
       tells = rw q (all-tells p (fresh n g m) (run-tellable n g m limits []))
 
   -- a start that answers 100 has passed both
-  pub begun : (new : Lent) → result 100 new ≡ start_by n g m p → Begun n g m p new
+  pub begun : (new : Lent) → result_of 100 new ≡ start_by n g m p → Begun n g m p new
   begun new s = go (shaped (length p.numbers) (length p.desk)) (fits n g m (store_of p)) refl refl
     where
-      refused : result 100 new ≡ result 1 p → Begun n g m p new
+      refused : result_of 100 new ≡ result_of 1 p → Begun n g m p new
       refused q = absurd (omega (arith, ap (λ (r : Result). r.answer) q))
 
       go : (a b : Bool) → shaped (length p.numbers) (length p.desk) ≡ a → fits n g m (store_of p) ≡ b → Begun n g m p new

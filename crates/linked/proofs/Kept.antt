@@ -11,7 +11,7 @@ use Rattle.machine.specs.declared.Call.{Call}
 use Rattle.machine.specs.declared.Answer.{Answer}
 use Rattle.runs.proofs.Abs.{fit}
 use Rattle.turns.specs.Plain.{record_of, answer_number, is_refused}
-use Rattle.turns.specs.Calls.{Lent, store_of, shaped, result, ended, made, called, row_after, record_after}
+use Rattle.turns.specs.Calls.{Lent, store_of, shaped, result_of, ended, made, called, row_after, record_after}
 use Rattle.turns.proofs.Desk.{desk-length}
 use Rattle.linked.specs.Tellable.{Tellable}
 use Rattle.linked.specs.Telling.{Whole, Tells}
@@ -34,7 +34,7 @@ module _ (call : Store → Outcome Answer) (put : Lent → Store → Lent) (p : 
   unfolding called refuse made ended
   called-kept W left puts = rw (shape_holds p W) (go (is_refused o.answer) left puts)
     where
-      go : (b : Bool) → (b ≡ true → o.store ≡ store_of p) → (b ≡ false → Tells (put p o.store) o.store) → Kept o (result (answer_number o.answer) (pick b p (put p o.store)))
+      go : (b : Bool) → (b ≡ true → o.store ≡ store_of p) → (b ≡ false → Tells (put p o.store) o.store) → Kept o (result_of (answer_number o.answer) (pick b p (put p o.store)))
       go true left puts = record { answer = refl; tells = record { store = sym (left refl); whole = W } }
       go false left puts = record { answer = refl; tells = puts refl }
 

@@ -11,7 +11,7 @@ use Rattle.runs.specs.Demand3.{Free}
 use Rattle.runs.specs.Site.{Promised}
 use Rattle.runs.proofs.Site.{played-run, promised}
 use Rattle.turns.specs.Plain.{record_of, answer_number}
-use Rattle.turns.specs.Calls.{Lent, store_of, result, start_by}
+use Rattle.turns.specs.Calls.{Lent, store_of, result_of, start_by}
 use Rattle.linked.specs.Called.{after_all}
 use Rattle.linked.proofs.Called.{calls}
 use Rattle.linked.specs.Playing.{Lasting}
@@ -48,7 +48,7 @@ lasting-linked {n} {g} {m} {new} b L P = record {
 }
 
 -- THE THEOREM: a start that answers 100 (done), on any lent memory, has made such a memory
-pub linked : (n g m : ℕ) (p new : Lent) → result 100 new ≡ start_by n g m p → Linked n g m new
+pub linked : (n g m : ℕ) (p new : Lent) → result_of 100 new ≡ start_by n g m p → Linked n g m new
 linked n g m p new e =
     let b = begun n g m p new e in
     let s = b.tells.store in

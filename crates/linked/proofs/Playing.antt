@@ -3,15 +3,15 @@ use Rattle.std.specs.Prelude.{ℕ, ◌≡◌, refl, List, [], ◌∷◌}
 use Rattle.machine.specs.Machine.{Turn, turn, turning, outcome_of, Meets}
 use Rattle.machine.specs.Run.{run}
 use Rattle.runs.specs.Site.{Played}
-use Rattle.turns.specs.Calls.{Lent, store_of, result}
+use Rattle.turns.specs.Calls.{Lent, store_of, result_of}
 use Rattle.linked.specs.Called.{turn_by, Called, stay, call}
 use Rattle.linked.specs.Kept.{Kept}
 use Rattle.linked.proofs.Kept.{turn-kept}
 use Rattle.linked.specs.Playing.{Lasting}
 
-module _ {p : Lent} (L : Lasting p) (t : Turn) {a : ℕ} {next : Lent} (e : result a next ≡ turn_by t p) where
+module _ {p : Lent} (L : Lasting p) (t : Turn) {a : ℕ} {next : Lent} (e : result_of a next ≡ turn_by t p) where
   -- after an exported call: it made the machine's turn, the memory is such a one again, and the public call's contract is met
-  pub kept : Kept (turn t (store_of p)) (result a next)
+  pub kept : Kept (turn t (store_of p)) (result_of a next)
   unfolding run
   kept = rw e (turn-kept t p L.whole (L.tellable (t ∷ [])))
 

@@ -6,7 +6,7 @@ use Rattle.machine.specs.Store.{fresh}
 use Rattle.machine.specs.Machine.{Turn}
 use Rattle.machine.specs.Run.{run, working_turns, C}
 use Rattle.runs.specs.Demand3.{Reachable, Free, Takes}
-use Rattle.turns.specs.Calls.{Lent, store_of, result}
+use Rattle.turns.specs.Calls.{Lent, store_of, result_of}
 use Rattle.linked.specs.Called.{turn_by, Called}
 
 -- what such a program may rely on, from the memory `new` that a start has filled
@@ -25,4 +25,4 @@ pub record Linked (n g m : ℕ) (new : Lent) : Type 0 where
   -- the count is the last of the nine numbers, and never passes C
   pub bounded : (ts : List Turn) (now : Lent) → Called new ts now → ((store_of now).rec.count ≡ get_or now.numbers 8 0) × (get_or now.numbers 8 0 ≤ C n g)
   -- no call of a writer or of the collector answers 1 or 2: the lent parts stay of this store's size, and in range
-  pub in_range : (ts : List Turn) (now : Lent) → Called new ts now → (t : Turn) (a : ℕ) (after : Lent) → result a after ≡ turn_by t now → (a ≢ 1) × (a ≢ 2)
+  pub in_range : (ts : List Turn) (now : Lent) → Called new ts now → (t : Turn) (a : ℕ) (after : Lent) → result_of a after ≡ turn_by t now → (a ≢ 1) × (a ≢ 2)
