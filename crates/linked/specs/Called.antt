@@ -1,7 +1,7 @@
 -- Turns made by the exported calls.
-use Rattle.std.specs.Prelude.{ℕ, ◌≡◌, refl, List, [], ◌∷◌}
+use Rattle.std.specs.Prelude.{ℕ, ◌≡◌, List, [], ◌∷◌}
 use Rattle.machine.specs.Machine.{Turn, writer, collector}
-use Rattle.turns.specs.Calls.{Lent, Result, result, write_by, collect_by}
+use Rattle.turns.specs.Calls.{Lent, Result, result_of, write_by, collect_by}
 
 -- what the contract of the exported call for this turn says: writer w's calls, and the collector's
 abbrev pub turn_by : Turn → Lent → Result
@@ -11,14 +11,9 @@ turn_by collector = collect_by
 -- these turns, each made by an exported call that met its contract, led from one memory to the other
 pub data Called : Lent → List Turn → Lent → Type 0 where
   stay : {p : Lent} → Called p [] p
-  call : {p next now : Lent} {ts : List Turn} (t : Turn) (a : ℕ) → result a next ≡ turn_by t p → Called next ts now → Called p (t ∷ ts) now
+  call : {p next now : Lent} {ts : List Turn} (t : Turn) (a : ℕ) → result_of a next ≡ turn_by t p → Called next ts now → Called p (t ∷ ts) now
 
--- every list of turns can be made by exported calls
-pub after_all : Lent → List Turn → Lent
+-- the memory after these turns, each made by the exported call for it
+unfoldable pub after_all : Lent → List Turn → Lent
 after_all p [] = p
 after_all p (t ∷ ts) = after_all (turn_by t p).after ts
-
-pub calls : (p : Lent) (ts : List Turn) → Called p ts (after_all p ts)
-unfolding after_all
-calls p [] = stay
-calls p (t ∷ ts) = call t (turn_by t p).answer refl (calls (turn_by t p).after ts)

@@ -1,7 +1,6 @@
-pub mod Desk
+-- What a program may rely on that is linked with the exported calls (Linked), and the definitions by which the theorems of proofs/ go.
 pub mod Tellable
 pub mod Telling
-pub mod Refusing
 pub mod Called
 pub mod Kept
 pub mod Playing

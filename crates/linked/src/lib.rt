@@ -1,2 +1,3 @@
-// Theorems only: what a program may rely on that is linked with the exported calls. They are in specs/.
+// Theorems only: what a program may rely on that is linked with the exported calls. They are stated
+// in specs/ and proved in proofs/.
 #![tactic(auto)]

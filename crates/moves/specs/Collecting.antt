@@ -1,7 +1,7 @@
 -- The collector's moves: what each working turn of the collector asks for, and the stage and store that it leads to.
 use Rattle.std.specs.Prelude.{◌≡◌, ◌≢◌, ℕ, zero, suc, ◌+◌, ◌<◌}
-use Rattle.moves.specs.Machine.{Stage, rest, ask1, ask2, roots, scan, sweep, St, none, set_colour, gray, set_count, tick}
-use Rattle.moves.specs.Machine.{AllStatus}
+use Rattle.moves.specs.Machine.{Stage, rest, ask1, ask2, roots, scan, sweep, St, none, set_colour, gray, set_count}
+use Rattle.moves.specs.Machine.{tick, AllStatus}
 
 -- what the sweep makes of a colour: white becomes free, black becomes white, gray and free stay
 abbrev pub swept_to : ℕ → ℕ

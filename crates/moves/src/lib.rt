@@ -1,5 +1,5 @@
-// The theory of the machine's moves is in specs/. The one number of it that code may want is here: the most working turns that
-// a cycle takes.
+// The theory of the machine's moves: its definitions are in specs/, its theorems in proofs/. The one number of it that code may
+// want is here: the most working turns that a cycle takes.
 #![tactic(auto)]
 
 ghost use Rattle.std.specs.Prelude.{◌≡◌};

@@ -1,23 +1,11 @@
+-- Demand 3 (Demand3), what a program may rely on that plays the public calls (Site), and the definitions by which the theorems of
+-- proofs/ go.
 pub mod Demand3
 pub mod Refused
 pub mod Abs
 pub mod Frame
-pub mod Slots
-pub mod Answering
 pub mod Storing
-pub mod Creating
-pub mod Writer
-pub mod Collect
 pub mod Course
-pub mod Reaching
-pub mod Taking
-pub mod Freeing
-pub mod Counting
-pub mod Bounded
 pub mod Range
 pub mod RangeRow
-pub mod RangeWriter
-pub mod RangeCollector
-pub mod RangeRun
-pub mod Proof
 pub mod Site

@@ -33,11 +33,14 @@ use Rattle.machine.specs.declared.Job.{Job}
 use Rattle.machine.specs.declared.Job.TheVariants.{Idle, Busy}
 use Rattle.machine.specs.declared.Work.TheVariants.{Answering, Storing, Creating}
 use Rattle.machine.specs.declared.Call.{Call}
-use Rattle.runs.specs.Refused.{refuse-clear}
-use Rattle.runs.specs.Abs.{set_all, fit, Eight}
-use Rattle.runs.specs.Creating.{free_is}
-use Rattle.runs.specs.RangeRow.{Sound, FineRow, FineQuiet, with_idle, same, put, put_quiet, put-gray, sound, slot_ok, with_job_lem, with_slot_lem, with_status_lem, field_ok, pages}
-use Rattle.runs.specs.Range.{Values, Colours, InRange, Fine, cell_ok, gray_ok_lem}
+use Rattle.runs.proofs.Refused.{refuse-clear}
+use Rattle.runs.specs.Abs.{Eight}
+use Rattle.runs.proofs.Abs.{set_all, fit}
+use Rattle.runs.proofs.Creating.{free_is}
+use Rattle.runs.specs.RangeRow.{Sound, FineRow, FineQuiet}
+use Rattle.runs.proofs.RangeRow.{with_idle, same, put, put_quiet, put-gray, sound, slot_ok, with_job_lem, with_slot_lem, with_status_lem, field_ok, pages}
+use Rattle.runs.specs.Range.{Values, Colours, InRange, Fine}
+use Rattle.runs.proofs.Range.{cell_ok, gray_ok_lem}
 
 -- the posted number is a status
 posted_ok : (t : ℕ) → leb (posted t) 2 ≡ true

@@ -2,7 +2,7 @@
 use Rattle.std.specs.Prelude.{ℕ, ◌≡◌, true, List}
 use Rattle.std.proofs.Common.{leb-true}
 use Rattle.moves.specs.Run.{IsStart}
-use Rattle.moves.specs.Reach.{safety}
+use Rattle.moves.proofs.Reach.{safety}
 use Rattle.machine.specs.ChoiceLaws.{hold}
 use Rattle.machine.specs.Limits.{limits_ok}
 use Rattle.machine.specs.Store.{fresh}
@@ -10,13 +10,13 @@ use Rattle.machine.specs.Machine.{Turn}
 use Rattle.machine.specs.Run.{run}
 use Rattle.runs.specs.Abs.{abs}
 use Rattle.runs.specs.Demand3.{Reachable, Free, Holds, Demand3}
-use Rattle.runs.specs.Course.{start_is, good}
-use Rattle.runs.specs.Reaching.{reach}
-use Rattle.runs.specs.Taking.{takes-free}
-use Rattle.runs.specs.Freeing.{is_freed}
-use Rattle.runs.specs.Bounded.{bounded}
-use Rattle.runs.specs.Counting.{is_counted}
-use Rattle.runs.specs.RangeRun.{stays_in_range}
+use Rattle.runs.proofs.Course.{start_is, good}
+use Rattle.runs.proofs.Reaching.{reach}
+use Rattle.runs.proofs.Taking.{takes-free}
+use Rattle.runs.proofs.Freeing.{is_freed}
+use Rattle.runs.proofs.Bounded.{bounded}
+use Rattle.runs.proofs.Counting.{is_counted}
+use Rattle.runs.proofs.RangeRun.{stays_in_range}
 
 -- what is reachable isn't free
 in_use_lem : (n g m : ℕ) → IsStart (abs (fresh n g m)) → (turns : List Turn) (x : ℕ) → Reachable (run (fresh n g m) turns) x

@@ -1,7 +1,8 @@
 -- What graying and sweeping do to a colour, and to the colours of all cells.
 use Rattle.std.specs.Prelude.{◌≡◌, refl, ℕ, zero, suc, ◌≤◌}
 use Rattle.std.proofs.Common.{◌∙◌, arith}
-use Rattle.moves.specs.Base.{upd, upd_same, upd_case}
+use Rattle.moves.specs.Base.{upd}
+use Rattle.moves.proofs.Base.{upd_same, upd_case}
 use Rattle.moves.specs.Machine.{shade}
 use Rattle.moves.specs.Collecting.{swept_to}
 

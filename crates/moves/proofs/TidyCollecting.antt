@@ -1,13 +1,15 @@
 -- Tidiness under the collector's moves.
 use Rattle.std.specs.Prelude.{◌≡◌, refl, ◌≢◌, ℕ, ◌+◌, ◌≤◌, ◌<◌}
 use Rattle.std.proofs.Common.{arith}
-use Rattle.moves.specs.Base.{upd, upd_case}
+use Rattle.moves.specs.Base.{upd}
+use Rattle.moves.proofs.Base.{upd_case}
 use Rattle.moves.specs.Machine.{Stage, ask2, roots, scan, sweep, St, none, set_colour, gray, set_count, tick, AllStatus}
 use Rattle.moves.specs.Collecting.{swept_to}
-use Rattle.moves.specs.Colours.{shade-out, gray_up, gray_3, gray-bound, swept_iff, swept_3}
+use Rattle.moves.proofs.Colours.{shade-out, gray_up, gray_3, gray-bound, swept_iff, swept_3}
 use Rattle.moves.specs.Closure.{floor, Live, Closed}
 use Rattle.moves.specs.Protection.{Tracing}
-use Rattle.moves.specs.Tidiness.{JobDark, dark-map, dark-zero, dark-two, IsAsk2, Tidy}
+use Rattle.moves.specs.Tidiness.{JobDark, IsAsk2, Tidy}
+use Rattle.moves.proofs.Tidiness.{dark-map, dark-zero, dark-two}
 
 -- stage, colours and count change: the jobs fit, and no cell becomes live
 tidy-stage : {σ : Stage} {s : St} → Tidy σ s → (σ' : Stage) (c : ℕ → ℕ) (k : ℕ)

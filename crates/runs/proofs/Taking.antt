@@ -10,12 +10,11 @@ use Rattle.machine.specs.Writer.{turn_of}
 use Rattle.machine.specs.Machine.{row_of, put_row, write, turn}
 use Rattle.machine.specs.declared.Row.{Row}
 use Rattle.machine.specs.declared.Room.{Room}
-use Rattle.machine.specs.declared.Room.TheVariants.{Full, Bad}
-use Rattle.machine.specs.declared.Room.TheVariants.{Free as Lowest}
+use Rattle.machine.specs.declared.Room.TheVariants.{Full, Bad, Free as Lowest}
 use Rattle.machine.specs.declared.Answer.{Answer}
 use Rattle.machine.specs.declared.Answer.TheVariants.{Done, More, Worked, Waited, Refused}
-use Rattle.runs.specs.Abs.{fit}
-use Rattle.runs.specs.Creating.{free_is}
+use Rattle.runs.proofs.Abs.{fit}
+use Rattle.runs.proofs.Creating.{free_is}
 use Rattle.runs.specs.Demand3.{carried, Free, creates, Takes}
 
 -- a refusal isn't `More`

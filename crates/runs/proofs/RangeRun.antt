@@ -15,11 +15,13 @@ use Rattle.machine.specs.Machine.{Turn, writer, collector, turn}
 use Rattle.machine.specs.Run.{run, C}
 use Rattle.machine.specs.declared.Answer.TheVariants.{Refused}
 use Rattle.runs.specs.Abs.{abs, Eight}
-use Rattle.runs.specs.Course.{turn-moves, same-each, start_is, Good, good_turn, good-fresh, good}
-use Rattle.runs.specs.Bounded.{bounded}
-use Rattle.runs.specs.Range.{numbers_ok, InRange, mild-not, Fine}
-use Rattle.runs.specs.RangeWriter.{write_fine}
-use Rattle.runs.specs.RangeCollector.{collect_fine}
+use Rattle.runs.specs.Course.{Good}
+use Rattle.runs.proofs.Course.{turn-moves, same-each, start_is, good_turn, good-fresh, good}
+use Rattle.runs.proofs.Bounded.{bounded}
+use Rattle.runs.specs.Range.{numbers_ok, InRange, Fine}
+use Rattle.runs.proofs.Range.{mild-not}
+use Rattle.runs.proofs.RangeWriter.{write_fine}
+use Rattle.runs.proofs.RangeCollector.{collect_fine}
 
 -- any turn on a store in range
 turn_fine : (st : Store) → Eight st.desk → InRange st → st.rec.count < 4294967295 → (t : Turn) → Fine (turn t st)

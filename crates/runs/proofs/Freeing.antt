@@ -7,16 +7,19 @@ use mathlib.Core.List.{List, [], ◌∷◌, ◌++◌}
 use Rattle.std.proofs.Math.Decide.{ℕ_discrete}
 use Rattle.moves.specs.Machine as Abstract
 use Rattle.moves.specs.Moves.{close}
-use Rattle.moves.specs.Run.{IsStart, run-inv}
+use Rattle.moves.specs.Run.{IsStart}
+use Rattle.moves.proofs.Run.{run-inv}
 use Rattle.moves.specs.Fate as Fate
+use Rattle.moves.proofs.Fate.{freed}
 use Rattle.machine.specs.Store.{Store, Outcome, fresh}
 use Rattle.machine.specs.Machine.{Turn, turn}
 use Rattle.machine.specs.Run.{run, works, working_turns, C}
 use Rattle.machine.specs.declared.Answer.{Answer}
 use Rattle.runs.specs.Abs.{stage_in, abs, Steps}
 use Rattle.runs.specs.Demand3.{Reachable, Free}
-use Rattle.runs.specs.Course.{turn-moves, Good, good_turn, good-run, good}
-use Rattle.runs.specs.Reaching.{reached}
+use Rattle.runs.specs.Course.{Good}
+use Rattle.runs.proofs.Course.{turn-moves, good_turn, good-run, good}
+use Rattle.runs.proofs.Reaching.{reached}
 
 -- after a first part of these turns x is free
 abbrev Freed : ℕ → Store → List Turn → Type 0
@@ -75,4 +78,4 @@ is_freed n g m S turns x l u h later big = go (freed_or x _ _ later st G 0 (0, F
     go : Freed x st later ⊎ Still x (stage_in st.rec) (abs st) (0 + working_turns st later) (run st later) → Freed x st later
     go (inl f) = f
     go (inr (a, z)) = let E = good-run later st G in
-        absurd (omega (arith, big, rw (E.cells, E.pages) at (Fate.freed S refl G.moves x (omega (arith, G.cells)) u (λ r. out (reached st (run-inv S G.moves) r)) z)))
+        absurd (omega (arith, big, rw (E.cells, E.pages) at (freed S refl G.moves x (omega (arith, G.cells)) u (λ r. out (reached st (run-inv S G.moves) r)) z)))

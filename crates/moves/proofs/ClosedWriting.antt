@@ -1,15 +1,16 @@
 -- Closure under the writers' moves.
 use Rattle.std.specs.Prelude.{◌≡◌, refl, Bool, true, false, ◌≢◌, ℕ, zero, suc, ◌≤◌, ◌<◌, ltb}
 use Rattle.std.proofs.Common.{arith, ltb-true}
-use Rattle.moves.specs.Base.{upd, upd_same, upd_other, upd_case, upd2_case}
-use Rattle.moves.specs.Machine.{Stage, rest, ask1, ask2, roots, scan, sweep, graying_old, writing, Row, St, none, posted}
-use Rattle.moves.specs.Machine.{tracing, hand, shade, set_colour, set_field, clear}
+use Rattle.moves.specs.Base.{upd}
+use Rattle.moves.proofs.Base.{upd_same, upd_other, upd_case, upd2_case}
+use Rattle.moves.specs.Machine.{Stage, rest, ask1, ask2, roots, scan, sweep, graying_old, writing, Row, St, none}
+use Rattle.moves.specs.Machine.{posted, tracing, hand, shade, set_colour, set_field, clear}
 use Rattle.moves.specs.Writing.{Known, page, copy, drop, read, plan_of, first_phase, after_old, looked, Writing, load}
 use Rattle.moves.specs.Writing.{answer_post, answer-start, answer-gray, answer-end, store-start, store-read, store-old}
 use Rattle.moves.specs.Writing.{store-new, store-write, take, look, keep, white, written}
-use Rattle.moves.specs.Rows.{three-names, slots_in_lem}
+use Rattle.moves.proofs.Rows.{three-names, slots_in_lem}
 use Rattle.moves.specs.Closure.{floor, Live, StatusFits, MayWhiten, MadeFits, MayAnswer, Open, RowOK, Closed}
-use Rattle.moves.specs.Closure.{floor-small, none_live, names_of, fits_of, closed-row, closed-by, kept-fits, closed-gray}
+use Rattle.moves.proofs.Closure.{floor-small, none_live, names_of, fits_of, closed-row, closed-by, kept-fits, closed-gray}
 
 -- what a turn may put into a slot is live
 known_live : {σ : Stage} {s : St} → Closed σ s → (r : Row) (v : ℕ) → RowOK σ s.N s.colour r → Known s r v

@@ -20,8 +20,10 @@ use Rattle.machine.specs.Machine.{row_of}
 use Rattle.machine.specs.declared.Row.{Row}
 use Rattle.machine.specs.declared.Job.TheVariants.{Idle, Busy}
 use Rattle.machine.specs.declared.Work.TheVariants.{Answering}
-use Rattle.runs.specs.Abs.{stage_at, stage_in, abs_job, abs_row, abs, abs-grayed, eight-put}
-use Rattle.runs.specs.Frame.{Wrote, Quiet, put_same, idle_is, At, put-row, put-job, job-eight, slot_at}
+use Rattle.runs.specs.Abs.{stage_at, stage_in, abs_job, abs_row, abs}
+use Rattle.runs.proofs.Abs.{abs-grayed, eight-put}
+use Rattle.runs.specs.Frame.{Wrote, Quiet, At}
+use Rattle.runs.proofs.Frame.{put_same, idle_is, put-row, put-job, job-eight, slot_at}
 
 -- the posted number of a stage
 posted-abs : (st p k h f : ℕ) → posted st ≡ Abstract.posted (stage_at st p k h f)

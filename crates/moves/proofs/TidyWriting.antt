@@ -2,18 +2,23 @@
 use Rattle.std.specs.Prelude.{◌≡◌, refl, ◌≢◌, ℕ, zero, suc, ◌≤◌, ◌<◌}
 use Rattle.std.proofs.Common.{sym, ◌∙◌, ap, subst, arith}
 use Rattle.std.proofs.Math.Decide.{dec_lt, ℕ_discrete}
-use Rattle.moves.specs.Base.{upd, upd_same, upd_other, upd_case, upd2, upd2_case, upd2-same, upd2_other}
+use Rattle.moves.specs.Base.{upd, upd2}
+use Rattle.moves.proofs.Base.{upd_same, upd_other, upd_case, upd2_case, upd2-same, upd2_other}
 use Rattle.moves.specs.Machine.{Stage, rest, ask1, ask2, roots, scan, sweep, Plan, bare, trace, full, reading}
 use Rattle.moves.specs.Machine.{graying_old, graying_new, writing, Made, taken, whiten, Job, idle, answering, storing}
 use Rattle.moves.specs.Machine.{creating, Row, St, none, tracing, shade, set_colour, gray, set_field, clear, set_row}
 use Rattle.moves.specs.Machine.{with_slot, set_job}
 use Rattle.moves.specs.Writing.{Known, page, copy, drop, read, plan_of, first_phase, after_old}
-use Rattle.moves.specs.Rows.{job_name, three-names, job_tag, job_at}
-use Rattle.moves.specs.Colours.{gray_up, gray-dark, gray_3, gray-bound}
-use Rattle.moves.specs.Closure.{floor, Live, StatusFits, Closed, live_used, none-dark, names_of}
-use Rattle.moves.specs.ClosedWriting.{closed-take}
-use Rattle.moves.specs.Protection.{OldIs, old-start, old-read, old-after, old-new}
-use Rattle.moves.specs.Tidiness.{StoreDark, JobDark, dark-map, FreshIn, IsAsk2, Tidy, tidy-row}
+use Rattle.moves.specs.Rows.{job_name, job_tag, job_at}
+use Rattle.moves.proofs.Rows.{three-names}
+use Rattle.moves.proofs.Colours.{gray_up, gray-dark, gray_3, gray-bound}
+use Rattle.moves.specs.Closure.{floor, Live, StatusFits, Closed}
+use Rattle.moves.proofs.Closure.{live_used, none-dark, names_of}
+use Rattle.moves.proofs.ClosedWriting.{closed-take}
+use Rattle.moves.specs.Protection.{OldIs}
+use Rattle.moves.proofs.Protection.{old-start, old-read, old-after, old-new}
+use Rattle.moves.specs.Tidiness.{StoreDark, JobDark, FreshIn, IsAsk2, Tidy}
+use Rattle.moves.proofs.Tidiness.{dark-map, tidy-row}
 
 -- none is not the cell of a creation
 none_ne : {σ : Stage} {s : St} → Closed σ s → {w n : ℕ} → FreshIn σ s w n → none ≢ n

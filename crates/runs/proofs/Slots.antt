@@ -16,8 +16,10 @@ use Rattle.machine.specs.Turns.{done, is_idle}
 use Rattle.machine.specs.Slots.{page, copy, drop, read_cell, read}
 use Rattle.machine.specs.Machine.{row_of}
 use Rattle.machine.specs.declared.Row.{Row}
-use Rattle.runs.specs.Abs.{abs_job, abs_row, abs, field_in, eight-put}
-use Rattle.runs.specs.Frame.{Quiet, put_same, idle_is, At, put-row, slot_at, slot-set, slot-eight}
+use Rattle.runs.specs.Abs.{abs_job, abs_row, abs}
+use Rattle.runs.proofs.Abs.{field_in, eight-put}
+use Rattle.runs.specs.Frame.{Quiet, At}
+use Rattle.runs.proofs.Frame.{put_same, idle_is, put-row, slot_at, slot-set, slot-eight}
 
 module _ {st : Store} {w : ℕ} (H : At st w) where
   abbrev row : Row

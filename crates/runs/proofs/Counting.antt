@@ -2,7 +2,8 @@
 use Rattle.std.specs.Prelude.{ℕ, zero, suc, ◌+◌, ◌≡◌, refl, List, [], ◌∷◌, eqb}
 use Rattle.std.proofs.Common.{sym, ◌∙◌, ap, inl, inr, arith, ne_eqb}
 use Rattle.moves.specs.Machine as Abstract
-use Rattle.moves.specs.Moves.{counted, count-after}
+use Rattle.moves.specs.Moves.{counted}
+use Rattle.moves.proofs.Moves.{count-after}
 use Rattle.machine.specs.Choice.{pick}
 use Rattle.machine.specs.Store.{Store, Outcome, fresh}
 use Rattle.machine.specs.Machine.{Turn, turn}
@@ -10,7 +11,8 @@ use Rattle.machine.specs.Run.{run, works, since_opening}
 use Rattle.machine.specs.declared.Answer.{Answer}
 use Rattle.machine.specs.declared.Answer.TheVariants.{Done, More, Worked, Waited, Refused}
 use Rattle.runs.specs.Abs.{stage_at, stage_in, Steps}
-use Rattle.runs.specs.Course.{turn-moves, Good, good_turn, good-fresh}
+use Rattle.runs.specs.Course.{Good}
+use Rattle.runs.proofs.Course.{turn-moves, good_turn, good-fresh}
 
 -- the count after an answer in stage t, k before it
 abbrev counts : Answer → ℕ → ℕ → ℕ

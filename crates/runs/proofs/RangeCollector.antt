@@ -14,16 +14,18 @@ use Rattle.machine.specs.Stage.{posted}
 use Rattle.machine.specs.Store.{Store, fresh_row, fits}
 use Rattle.machine.specs.Range.{place_ok, part_ok, value_ok, hold_ok, found_ok, status_ok, colour_ok, row_ok}
 use Rattle.machine.specs.Turns.{worked, waited, Collected, collected}
-use Rattle.machine.specs.Collector.{has_status, survey, entering, barred, opening, waiting, marking, end_pass, scan_place}
-use Rattle.machine.specs.Collector.{scan_hold, scan_gray, scan_close, scanning, swept, sweeping, by_stage, collector_turn}
+use Rattle.machine.specs.Collector.{has_status, survey, entering, barred, opening, waiting, marking, end_pass}
+use Rattle.machine.specs.Collector.{scan_place, scan_hold, scan_gray, scan_close, scanning, swept, sweeping, by_stage}
+use Rattle.machine.specs.Collector.{collector_turn}
 use Rattle.machine.specs.Machine.{put_record, collect}
 use Rattle.machine.specs.declared.Record.{Record}
 use Rattle.machine.specs.declared.Row.{Row}
 use Rattle.machine.specs.declared.Answer.TheVariants.{Worked, Refused}
-use Rattle.runs.specs.Refused.{refuse-clear}
-use Rattle.runs.specs.Abs.{set_all, fit}
-use Rattle.runs.specs.Collect.{part-zero, part_in}
-use Rattle.runs.specs.Range.{numbers_ok, Colours, InRange, Fine, record_ok_lem, value-at, colour-at, gray_ok_lem, grayed_in, grayed-length}
+use Rattle.runs.proofs.Refused.{refuse-clear}
+use Rattle.runs.proofs.Abs.{set_all, fit}
+use Rattle.runs.proofs.Collect.{part-zero, part_in}
+use Rattle.runs.specs.Range.{numbers_ok, Colours, InRange, Fine}
+use Rattle.runs.proofs.Range.{record_ok_lem, value-at, colour-at, gray_ok_lem, grayed_in, grayed-length}
 
 -- a swept colour is a colour
 swept_ok : (c : ℕ) → colour_ok c ≡ true → colour_ok (swept c) ≡ true

@@ -13,12 +13,14 @@ use Rattle.machine.specs.declared.Job.{Job}
 use Rattle.machine.specs.declared.Job.TheVariants.{Idle, Busy}
 use Rattle.machine.specs.declared.Work.TheVariants.{Answering, Storing, Creating}
 use Rattle.machine.specs.declared.Call.{Call}
-use Rattle.runs.specs.Abs.{fit, Eight, Steps}
-use Rattle.runs.specs.Frame.{Wrote, put_same, At}
-use Rattle.runs.specs.Slots.{page-moves, copy_moves, drop-moves, read-moves}
-use Rattle.runs.specs.Answering.{answer-moves, answering-moves}
-use Rattle.runs.specs.Storing.{store-moves, storing-moves}
-use Rattle.runs.specs.Creating.{create-moves, creating-moves}
+use Rattle.runs.specs.Abs.{Eight, Steps}
+use Rattle.runs.proofs.Abs.{fit}
+use Rattle.runs.specs.Frame.{Wrote, At}
+use Rattle.runs.proofs.Frame.{put_same}
+use Rattle.runs.proofs.Slots.{page-moves, copy_moves, drop-moves, read-moves}
+use Rattle.runs.proofs.Answering.{answer-moves, answering-moves}
+use Rattle.runs.proofs.Storing.{store-moves, storing-moves}
+use Rattle.runs.proofs.Creating.{create-moves, creating-moves}
 
 module _ {st : Store} {w : ℕ} (H : At st w) where
   abbrev row : Row

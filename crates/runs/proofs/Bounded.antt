@@ -1,7 +1,8 @@
 -- The count never exceeds C.
 use Rattle.std.specs.Prelude.{ℕ, ◌≤◌, refl}
-use Rattle.moves.specs.Run.{IsStart, run-inv}
-use Rattle.moves.specs.Bound.{run-bound, bound-C, run-placed}
+use Rattle.moves.specs.Run.{IsStart}
+use Rattle.moves.proofs.Run.{run-inv}
+use Rattle.moves.proofs.Bound.{run-bound, bound-C, run-placed}
 use Rattle.machine.specs.Store.{Store, fresh}
 use Rattle.machine.specs.Run.{C}
 use Rattle.runs.specs.Abs.{stage_in, abs}

@@ -21,12 +21,14 @@ use Rattle.machine.specs.Store.{Store, fresh_row}
 use Rattle.machine.specs.Range.{place_ok, part_ok, hold_ok, found_ok, record_ok, colour_ok}
 use Rattle.machine.specs.Gray.{grayed}
 use Rattle.machine.specs.Turns.{worked, waited, Collected, collected}
-use Rattle.machine.specs.Collector.{has_status, survey, entering, barred, opening, waiting, marking, end_pass, scan_place}
-use Rattle.machine.specs.Collector.{scan_hold, scan_gray, scan_close, scanning, swept, sweeping, by_stage, collector_turn}
+use Rattle.machine.specs.Collector.{has_status, survey, entering, barred, opening, waiting, marking, end_pass}
+use Rattle.machine.specs.Collector.{scan_place, scan_hold, scan_gray, scan_close, scanning, swept, sweeping, by_stage}
+use Rattle.machine.specs.Collector.{collector_turn}
 use Rattle.machine.specs.Machine.{put_record, collect}
 use Rattle.machine.specs.declared.Record.{Record}
 use Rattle.machine.specs.declared.Row.{Row}
-use Rattle.runs.specs.Abs.{abs_row, abs_fields, any_default, get_or-upd, abs-grayed, field_in, fit, Eight, Steps}
+use Rattle.runs.specs.Abs.{abs_row, abs_fields, Eight, Steps}
+use Rattle.runs.proofs.Abs.{any_default, get_or-upd, abs-grayed, field_in, fit}
 
 -- what the sweep makes of a colour
 swept-abs : (b : ℕ) → b ≤ 3 → swept b ≡ Collecting.swept_to b

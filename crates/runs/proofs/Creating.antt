@@ -6,7 +6,8 @@ use Rattle.std.proofs.Math.Logic.{inl}
 use Rattle.std.proofs.Math.Decide.{dec_lt, ℕ_discrete}
 use Rattle.std.proofs.Math.ListN.{length, get_or, get_or-eq_default}
 use Rattle.std.proofs.Math.Seq.{set_out}
-use Rattle.moves.specs.Base.{upd, upd_case}
+use Rattle.moves.specs.Base.{upd}
+use Rattle.moves.proofs.Base.{upd_case}
 use Rattle.moves.specs.Machine as Abstract
 use Rattle.moves.specs.Writing as Writing
 use Rattle.moves.specs.Moves.{by-writer}
@@ -27,8 +28,10 @@ use Rattle.machine.specs.declared.Room.{Room}
 use Rattle.machine.specs.declared.Room.TheVariants.{Free, Full, Bad}
 use Rattle.machine.specs.declared.Job.TheVariants.{Idle, Busy}
 use Rattle.machine.specs.declared.Work.TheVariants.{Creating}
-use Rattle.runs.specs.Abs.{stage_at, stage_in, abs_look, abs_job, abs_fields, abs, get_or-upd, abs-rows, eight-put}
-use Rattle.runs.specs.Frame.{Wrote, put_same, idle_is, At, in_desk, put-row, put-job, job-eight, slot-set, slot-eight}
+use Rattle.runs.specs.Abs.{stage_at, stage_in, abs_look, abs_job, abs_fields, abs}
+use Rattle.runs.proofs.Abs.{get_or-upd, abs-rows, eight-put}
+use Rattle.runs.specs.Frame.{Wrote, At}
+use Rattle.runs.proofs.Frame.{put_same, idle_is, in_desk, put-row, put-job, job-eight, slot-set, slot-eight}
 
 -- ---- take: the lowest free cell is free, and its fields are emptied
 -- the cell c that is found is free: it is i + j, with colour 0 at j

@@ -1,0 +1,22 @@
+-- The theorems of the machine of moves, over the definitions of specs/.
+pub mod Base
+pub mod Moves
+pub mod Rows
+pub mod Colours
+pub mod Closure
+pub mod ClosedWriting
+pub mod ClosedCollecting
+pub mod Protection
+pub mod Tidiness
+pub mod Making
+pub mod GuardedWriting
+pub mod GuardedCollecting
+pub mod TidyWriting
+pub mod TidyCollecting
+pub mod Scan
+pub mod Invariant
+pub mod Run
+pub mod Reach
+pub mod Bound
+pub mod Doom
+pub mod Fate

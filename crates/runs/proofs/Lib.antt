@@ -1,0 +1,23 @@
+-- The theorems: demand 3 holds (Demand3), and a start gives what a program may rely on (Site).
+pub mod Refused
+pub mod Abs
+pub mod Frame
+pub mod Slots
+pub mod Answering
+pub mod Storing
+pub mod Creating
+pub mod Writer
+pub mod Collect
+pub mod Course
+pub mod Reaching
+pub mod Taking
+pub mod Freeing
+pub mod Counting
+pub mod Bounded
+pub mod Range
+pub mod RangeRow
+pub mod RangeWriter
+pub mod RangeCollector
+pub mod RangeRun
+pub mod Demand3
+pub mod Site
