@@ -1,5 +1,5 @@
 -- The one shape of a public contract allows one outcome only.
-use Rattle.std.specs.Prelude.{ℕ, ◌≡◌}
+use Rattle.std.specs.Prelude.{◌≡◌}
 use Rattle.std.proofs.Common.{sym, ◌∙◌}
 use Rattle.machine.specs.Store.{Store}
 use Rattle.machine.specs.Machine.{Public, starting, turning, counting, Answers, said_in, Meets}

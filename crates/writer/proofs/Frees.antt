@@ -1,10 +1,10 @@
 -- The loop that looks for the lowest free cell: what is left of the colours has the meaning of the whole.
 use Prim.Native.Nat.{ℕ, ◌+◌, ◌-◌, ◌<◌, ◌≤◌}
 use mathlib.Core.Path.{◌≡◌, sym, ap, ◌∙◌}
-use mathlib.Core.Bool.{Bool, true, false, not}
+use mathlib.Core.Bool.{Bool, true}
 use mathlib.Core.List.{List, [], ◌∷◌, ◌++◌}
 use native.Mathlib.Omega.{arith}
-use borrow.Author.Tests.{not-true, not-false}
+use borrow.Author.Tests.{not-true}
 use lib.ListN.{length, get_or, take, drop, take-append-drop, length-drop, drop_of_length-le}
 use lib.Seq.{length-take-le, drop-drop}
 use lib.Dec.{leb, eqb}

@@ -1,4 +1,3 @@
-use Rattle.std.proofs.Common.{◌∙◌}
 use Rattle.turn.proofs.Laws.{write_meets}
 use Rattle.turn.proofs.write.Goals as goal
 

@@ -1,4 +1,3 @@
-use borrow.Author.Rules.{rules}
 use Rattle.cells.proofs.Testing.{everys}
 use Rattle.cells.proofs.Choosing.{picks}
 use Rattle.machine.specs.Limits.{sizes_ok}

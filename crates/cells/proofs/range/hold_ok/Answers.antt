@@ -1,4 +1,3 @@
-use borrow.Author.Rules.{rules}
 use Rattle.cells.proofs.Choosing.{keys}
 use Rattle.machine.specs.Range.{hold_ok}
 use Rattle.cells.proofs.range.hold_ok.Goals as goal

@@ -1,4 +1,3 @@
-use borrow.Author.Rules.{rules}
 use Rattle.machine.specs.Range.{job_ok}
 use Rattle.cells.proofs.range.job_ok.Goals as goal
 

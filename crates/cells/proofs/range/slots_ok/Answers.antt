@@ -1,7 +1,5 @@
-use Prim.Native.Nat.{◌-◌}
 use borrow.Author.Rules.{rules}
-use Rattle.cells.proofs.Looping.{Tested, tests, tested-next}
-use Rattle.machine.specs.Range.{value_ok}
+use Rattle.cells.proofs.Looping.{tests, tested-next}
 use Rattle.cells.proofs.range.slots_ok.Goals as goal
 
 pub loop-i-init : goal.loop-i-init

@@ -1,5 +1,5 @@
 use Prim.Native.Nat.{◌-◌}
-use Rattle.cells.proofs.Looping.{Tested, tests, tested-next}
+use Rattle.cells.proofs.Looping.{Tested}
 use Rattle.machine.specs.Range.{value_ok}
 use Rattle.cells.proofs.range.slots_ok.Given as goal
 

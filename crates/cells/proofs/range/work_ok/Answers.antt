@@ -1,4 +1,3 @@
-use borrow.Author.Rules.{rules}
 use Rattle.machine.specs.Range.{work_ok}
 use Rattle.cells.proofs.range.work_ok.Goals as goal
 

@@ -1,7 +1,4 @@
-use Rattle.std.specs.Prelude.{◌≡◌, ◌-◌, ◌≤◌, length, drop}
 use borrow.Author.Rules.{rules}
-use Rattle.machine.specs.Choice.{all}
-use Rattle.machine.specs.Range.{colour_ok}
 use Rattle.cells.proofs.Looping.{alls}
 use Rattle.census.proofs.by_value.colours_ok.Goals as goal
 

@@ -1,7 +1,6 @@
 use Rattle.std.specs.Prelude.{◌≡◌, ◌-◌, ◌≤◌, length, drop}
 use Rattle.machine.specs.Choice.{all}
 use Rattle.machine.specs.Range.{colour_ok}
-use Rattle.cells.proofs.Looping.{alls}
 use Rattle.census.proofs.by_value.colours_ok.Given as goal
 
 abbrev pub invariant-loop-i : goal.invariant-loop-i

@@ -1,7 +1,4 @@
-use Rattle.std.specs.Prelude.{◌≡◌, ◌-◌, ◌≤◌, length, take, drop}
 use borrow.Author.Rules.{rules}
-use Rattle.machine.specs.Choice.{all}
-use Rattle.machine.specs.Range.{row_ok}
 use Rattle.census.proofs.Looping.{rows_all}
 use Rattle.census.proofs.by_value.rows_ok.Goals as goal
 

@@ -1,7 +1,6 @@
 use Rattle.std.specs.Prelude.{◌≡◌, ◌-◌, ◌≤◌, length, take, drop}
 use Rattle.machine.specs.Choice.{all}
 use Rattle.machine.specs.Range.{row_ok}
-use Rattle.census.proofs.Looping.{rows_all}
 use Rattle.census.proofs.by_value.rows_ok.Given as goal
 
 abbrev pub invariant-loop-i : goal.invariant-loop-i

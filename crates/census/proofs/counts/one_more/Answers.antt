@@ -1,4 +1,3 @@
-use borrow.Author.Rules.{rules}
 use native.Mathlib.Omega.{arith}
 use Rattle.census.specs.Counting.{one_more}
 use Rattle.census.proofs.Counting.{one-le}

@@ -1,7 +1,5 @@
 use Rattle.std.specs.Prelude.{◌-◌, ◌≤◌, length}
-use native.Mathlib.Omega.{arith}
 use Rattle.census.specs.Counting.{Tallied}
-use Rattle.census.proofs.Counting.{tally-start, tally-few, tally-more, tally-end}
 use Rattle.census.proofs.counts.tally.Given as goal
 
 abbrev pub invariant-loop-i : goal.invariant-loop-i

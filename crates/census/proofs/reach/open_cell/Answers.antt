@@ -1,8 +1,4 @@
-use Rattle.std.specs.Prelude.{◌-◌, ◌≤◌}
-use borrow.Author.Rules.{rules}
 use native.Mathlib.Omega.{arith}
-use Rattle.machine.specs.Parts.{field_of}
-use Rattle.census.specs.Walk.{Pushing, firsts}
 use Rattle.census.proofs.Walks.{firsts-start, firsts_more, firsts-end}
 use Rattle.census.proofs.reach.open_cell.Goals as goal
 

@@ -1,8 +1,6 @@
 use Rattle.std.specs.Prelude.{◌-◌, ◌≤◌}
-use native.Mathlib.Omega.{arith}
 use Rattle.machine.specs.Parts.{field_of}
 use Rattle.census.specs.Walk.{Pushing, firsts}
-use Rattle.census.proofs.Walks.{firsts-start, firsts_more, firsts-end}
 use Rattle.census.proofs.reach.open_cell.Given as goal
 
 abbrev pub invariant-loop-f : goal.invariant-loop-f

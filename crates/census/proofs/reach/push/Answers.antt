@@ -1,5 +1,3 @@
-use Rattle.std.specs.Prelude.{◌<◌, length}
-use borrow.Author.Rules.{rules}
 use native.Mathlib.Omega.{arith}
 use Rattle.census.specs.Walk.{stays, new}
 use Rattle.census.proofs.Walks.{past-free, room-new}

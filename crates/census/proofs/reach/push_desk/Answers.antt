@@ -1,7 +1,5 @@
-use Rattle.std.specs.Prelude.{◌≤◌, length}
 use borrow.Author.Rules.{rules}
 use native.Mathlib.Omega.{arith}
-use Rattle.census.specs.Walk.{Pushing, slots_from}
 use Rattle.census.proofs.Walks.{desk-start, desk-more, desk-end}
 use Rattle.census.proofs.reach.push_desk.Goals as goal
 

@@ -1,7 +1,5 @@
 use Rattle.std.specs.Prelude.{◌≤◌, length}
-use native.Mathlib.Omega.{arith}
 use Rattle.census.specs.Walk.{Pushing, slots_from}
-use Rattle.census.proofs.Walks.{desk-start, desk-more, desk-end}
 use Rattle.census.proofs.reach.push_desk.Given as goal
 
 abbrev pub invariant-loop-i : goal.invariant-loop-i

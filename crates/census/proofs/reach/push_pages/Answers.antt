@@ -1,8 +1,4 @@
-use Rattle.std.specs.Prelude.{◌-◌, ◌≤◌}
-use borrow.Author.Rules.{rules}
 use native.Mathlib.Omega.{arith}
-use Rattle.machine.specs.Census.{pages}
-use Rattle.census.specs.Walk.{Pushing}
 use Rattle.census.proofs.Walks.{pages-start, pages-more, pages-end}
 use Rattle.census.proofs.reach.push_pages.Goals as goal
 

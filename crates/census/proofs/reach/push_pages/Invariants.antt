@@ -1,8 +1,6 @@
 use Rattle.std.specs.Prelude.{◌-◌, ◌≤◌}
-use native.Mathlib.Omega.{arith}
 use Rattle.machine.specs.Census.{pages}
 use Rattle.census.specs.Walk.{Pushing}
-use Rattle.census.proofs.Walks.{pages-start, pages-more, pages-end}
 use Rattle.census.proofs.reach.push_pages.Given as goal
 
 abbrev pub invariant-loop-p : goal.invariant-loop-p

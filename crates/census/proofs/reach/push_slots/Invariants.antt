@@ -1,7 +1,5 @@
 use Rattle.std.specs.Prelude.{◌≡◌, ◌≤◌, length, drop}
-use native.Mathlib.Omega.{arith}
 use Rattle.census.specs.Walk.{Pushing}
-use Rattle.census.proofs.Walks.{slots-start, slots-more, slots_end}
 use Rattle.census.proofs.reach.push_slots.Given as goal
 
 abbrev pub invariant-loop-i : goal.invariant-loop-i

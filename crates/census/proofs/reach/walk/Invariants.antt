@@ -1,7 +1,6 @@
 use Rattle.std.specs.Prelude.{◌+◌, length}
-use native.Mathlib.Omega.{arith}
 use Rattle.census.specs.Walk.{unmarked}
-use Rattle.census.proofs.Marks.{Opening, clear_room, open_start, open_room, open_places, open_few, open_cell, open_more, open_less, open_end}
+use Rattle.census.proofs.Marks.{Opening}
 use Rattle.census.proofs.reach.walk.Given as goal
 
 abbrev pub invariant-loop-top : goal.invariant-loop-top

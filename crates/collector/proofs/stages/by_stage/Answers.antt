@@ -1,4 +1,3 @@
-use borrow.Author.Rules.{rules}
 use Rattle.collector.proofs.Ends.{ends, at_stage}
 use Rattle.machine.specs.Collector.{by_stage}
 use Rattle.collector.proofs.stages.by_stage.Goals as goal

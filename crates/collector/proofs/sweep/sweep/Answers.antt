@@ -1,4 +1,3 @@
-use borrow.Author.Rules.{rules}
 use Rattle.collector.proofs.Ends.{ends}
 use Rattle.cells.proofs.Refusing.{refusals}
 use Rattle.machine.specs.Collector.{sweeping}

@@ -1,8 +1,4 @@
 use borrow.Author.Rules.{rules}
-use Prim.Native.Nat.{◌≤◌, ◌-◌, ◌+◌}
-use mathlib.Core.Path.{◌≡◌}
-use lib.ListN.{length, take}
-use Rattle.lines.specs.Output.{Wrote}
 use Rattle.lines.proofs.Written.{wrotes}
 use Rattle.lines.proofs.bytes.put_bytes.Goals as goal
 

@@ -1,9 +1,8 @@
 use native.Mathlib.Omega.{arith}
 use borrow.Author.Rules.{rules}
-use Prim.Native.Nat.{◌≤◌, ◌<◌, ◌^◌}
-use mathlib.Core.Path.{◌≡◌, refl}
-use lib.ListN.{length, drop, length-set}
-use Rattle.lines.specs.Numbers.{digits_of, decimal}
+use mathlib.Core.Path.{refl}
+use lib.ListN.{length-set}
+use Rattle.lines.specs.Numbers.{decimal}
 use Rattle.lines.proofs.Digits.{two_left, fewer, digit, spelt, spelt-room, spelt-short}
 use Rattle.lines.proofs.bytes.put_number.Goals as goal
 

@@ -1,9 +1,7 @@
-use native.Mathlib.Omega.{arith}
 use Prim.Native.Nat.{◌≤◌, ◌<◌, ◌^◌}
-use mathlib.Core.Path.{◌≡◌, refl}
-use lib.ListN.{length, drop, length-set}
+use mathlib.Core.Path.{◌≡◌}
+use lib.ListN.{length, drop}
 use Rattle.lines.specs.Numbers.{digits_of, decimal}
-use Rattle.lines.proofs.Digits.{two_left, fewer, digit, spelt, spelt-room, spelt-short}
 use Rattle.lines.proofs.bytes.put_number.Given as goal
 
 abbrev pub invariant-loop-left : goal.invariant-loop-left

@@ -1,8 +1,5 @@
 use borrow.Author.Rules.{rules}
-use Prim.Native.Nat.{◌≤◌, ◌-◌, ◌+◌}
-use mathlib.Core.Path.{◌≡◌}
-use lib.ListN.{length, drop}
-use Rattle.lines.proofs.Splitting.{field_len, tabs}
+use Rattle.lines.proofs.Splitting.{tabs}
 use Rattle.lines.proofs.fields.field_end.Goals as goal
 
 pub loop-i-init : goal.loop-i-init

@@ -1,7 +1,7 @@
 use Prim.Native.Nat.{◌≤◌, ◌-◌, ◌+◌}
 use mathlib.Core.Path.{◌≡◌}
 use lib.ListN.{length, drop}
-use Rattle.lines.proofs.Splitting.{field_len, tabs}
+use Rattle.lines.proofs.Splitting.{field_len}
 use Rattle.lines.proofs.fields.field_end.Given as goal
 
 abbrev pub invariant-loop-i : goal.invariant-loop-i

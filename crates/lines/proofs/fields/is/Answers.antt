@@ -1,8 +1,4 @@
 use borrow.Author.Rules.{rules}
-use Prim.Native.Nat.{◌≤◌, ◌-◌}
-use mathlib.Core.Path.{◌≡◌}
-use lib.ListN.{length, drop}
-use Rattle.lines.specs.Fields.{same}
 use Rattle.lines.proofs.Splitting.{sames}
 use Rattle.lines.proofs.fields.is.Goals as goal
 

@@ -2,7 +2,6 @@ use Prim.Native.Nat.{◌≤◌, ◌-◌}
 use mathlib.Core.Path.{◌≡◌}
 use lib.ListN.{length, drop}
 use Rattle.lines.specs.Fields.{same}
-use Rattle.lines.proofs.Splitting.{sames}
 use Rattle.lines.proofs.fields.is.Given as goal
 
 abbrev pub invariant-loop-i : goal.invariant-loop-i

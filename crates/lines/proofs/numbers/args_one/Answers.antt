@@ -1,4 +1,3 @@
-use borrow.Author.Rules.{rules}
 use Rattle.lines.specs.Lines.{args_of}
 use Rattle.lines.proofs.Args.{args}
 use Rattle.lines.proofs.numbers.args_one.Goals as goal

@@ -1,10 +1,6 @@
-use Prim.Native.Nat.{◌≤◌, ◌<◌, ◌-◌, ◌^◌}
-use mathlib.Core.Path.{◌≡◌, refl}
+use mathlib.Core.Path.{refl}
 use native.Mathlib.Omega.{arith}
-use lib.ListN.{length, drop}
 use borrow.Author.Rules.{rules}
-use Rattle.machine.specs.Choice.{all}
-use Rattle.lines.specs.Numbers.{is_digit, value_from}
 use Rattle.lines.proofs.Reading.{bads, digits, whole}
 use Rattle.lines.proofs.numbers.read_number.Goals as goal
 

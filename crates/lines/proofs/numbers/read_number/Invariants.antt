@@ -1,10 +1,8 @@
 use Prim.Native.Nat.{◌≤◌, ◌<◌, ◌-◌, ◌^◌}
-use mathlib.Core.Path.{◌≡◌, refl}
-use native.Mathlib.Omega.{arith}
+use mathlib.Core.Path.{◌≡◌}
 use lib.ListN.{length, drop}
 use Rattle.machine.specs.Choice.{all}
 use Rattle.lines.specs.Numbers.{is_digit, value_from}
-use Rattle.lines.proofs.Reading.{bads, digits, whole}
 use Rattle.lines.proofs.numbers.read_number.Given as goal
 
 abbrev pub invariant-loop-i : goal.invariant-loop-i

@@ -1,4 +1,3 @@
-use borrow.Author.Rules.{rules}
 use Rattle.lines.specs.Lines.{line_for}
 use Rattle.lines.proofs.Args.{at-args}
 use Rattle.lines.proofs.parse.line_for.Goals as goal

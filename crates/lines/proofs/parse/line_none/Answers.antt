@@ -1,4 +1,3 @@
-use borrow.Author.Rules.{rules}
 use Rattle.lines.specs.Lines.{line_none}
 use Rattle.cells.proofs.Choosing.{picks}
 use Rattle.lines.proofs.parse.line_none.Goals as goal

@@ -1,4 +1,3 @@
-use borrow.Author.Rules.{rules}
 use Rattle.lines.specs.Lines.{line_three}
 use Rattle.cells.proofs.Choosing.{picks}
 use Rattle.lines.proofs.parse.line_three.Goals as goal

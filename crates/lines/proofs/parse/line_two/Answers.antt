@@ -1,4 +1,3 @@
-use borrow.Author.Rules.{rules}
 use Rattle.lines.specs.Lines.{line_two}
 use Rattle.cells.proofs.Choosing.{picks}
 use Rattle.lines.proofs.parse.line_two.Goals as goal

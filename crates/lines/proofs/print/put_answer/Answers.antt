@@ -1,4 +1,3 @@
-use borrow.Author.Rules.{rules}
 use Rattle.lines.specs.Output.{out_line}
 use Rattle.lines.proofs.Written.{also}
 use Rattle.lines.proofs.print.put_answer.Goals as goal

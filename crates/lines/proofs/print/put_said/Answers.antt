@@ -1,4 +1,3 @@
-use borrow.Author.Rules.{rules}
 use Rattle.machine.specs.Answer.{said_by}
 use Rattle.lines.specs.Output.{word_text, said_text}
 use Rattle.lines.proofs.Written.{at-answer}

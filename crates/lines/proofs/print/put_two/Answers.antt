@@ -1,4 +1,3 @@
-use borrow.Author.Rules.{rules}
 use Rattle.lines.specs.Output.{parted}
 use Rattle.lines.proofs.Written.{also}
 use Rattle.lines.proofs.print.put_two.Goals as goal

@@ -1,5 +1,4 @@
-use borrow.Author.Rules.{rules}
-use Rattle.player.proofs.Plays.{ended, answered, line_len}
+use Rattle.player.proofs.Plays.{ended, answered}
 use Rattle.player.proofs.feed.end_line.Goals as goal
 
 pub returns-then-count-ge4294967295-clause-by_index : goal.returns-then-count-ge4294967295-clause-by_index

@@ -1,4 +1,3 @@
-use borrow.Author.Rules.{rules}
 use Rattle.player.proofs.Plays.{at_called, at-counted}
 use Rattle.player.proofs.feed.put_reply.Goals as goal
 

@@ -1,9 +1,4 @@
 use borrow.Author.Rules.{rules}
-use Prim.Native.Nat.{ℕ, ◌≤◌, ◌-◌}
-use mathlib.Core.Path.{◌≡◌, refl}
-use mathlib.Core.List.{List, ◌++◌}
-use lib.ListN.{length, drop}
-use Rattle.player.specs.Play.{total, Ready}
 use Rattle.player.proofs.Plays.{unended, ended-line}
 use Rattle.player.proofs.feed.take_bytes.Goals as goal
 

@@ -1,9 +1,8 @@
 use Prim.Native.Nat.{ℕ, ◌≤◌, ◌-◌}
-use mathlib.Core.Path.{◌≡◌, refl}
+use mathlib.Core.Path.{◌≡◌}
 use mathlib.Core.List.{List, ◌++◌}
 use lib.ListN.{length, drop}
 use Rattle.player.specs.Play.{total, Ready}
-use Rattle.player.proofs.Plays.{unended, ended-line}
 use Rattle.player.proofs.feed.take_bytes.Given as goal
 
 abbrev pub invariant-loop-i : goal.invariant-loop-i

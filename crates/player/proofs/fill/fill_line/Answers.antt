@@ -1,9 +1,4 @@
 use borrow.Author.Rules.{rules}
-use Prim.Native.Nat.{ℕ, ◌≤◌, ◌-◌}
-use mathlib.Core.Path.{◌≡◌}
-use mathlib.Core.List.{List, ◌++◌}
-use lib.ListN.{length, take, drop}
-use Rattle.player.specs.Fill.{Alike}
 use Rattle.player.proofs.Filling.{met, taken}
 use Rattle.player.proofs.fill.fill_line.Goals as goal
 

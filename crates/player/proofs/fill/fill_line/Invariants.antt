@@ -3,7 +3,6 @@ use mathlib.Core.Path.{◌≡◌}
 use mathlib.Core.List.{List, ◌++◌}
 use lib.ListN.{length, take, drop}
 use Rattle.player.specs.Fill.{Alike}
-use Rattle.player.proofs.Filling.{met, taken}
 use Rattle.player.proofs.fill.fill_line.Given as goal
 
 abbrev pub invariant-loop-i : goal.invariant-loop-i

@@ -1,4 +1,3 @@
-use borrow.Author.Rules.{rules}
 use Rattle.player.proofs.Filling.{kept, lost}
 use Rattle.player.proofs.fill.keep_byte.Goals as goal
 

@@ -1,5 +1,4 @@
-use borrow.Author.Rules.{rules}
-use Rattle.player.proofs.Steps.{words, bytes, unmoved, barred-census, counting-step}
+use Rattle.player.proofs.Steps.{unmoved, barred-census, counting-step}
 use Rattle.player.proofs.step.census_step.Goals as goal
 
 pub returns-then-not-own : goal.returns-then-not-own

@@ -1,6 +1,4 @@
-use Rattle.std.specs.Prelude.{◌-◌, length}
-use borrow.Author.Rules.{rules}
-use Rattle.turn.proofs.Filling.{Filling, empty, fillings}
+use Rattle.turn.proofs.Filling.{fillings}
 use Rattle.turn.proofs.by_value.empty_fields.Goals as goal
 
 pub loop-i-init : goal.loop-i-init

@@ -1,5 +1,5 @@
 use Rattle.std.specs.Prelude.{◌-◌, length}
-use Rattle.turn.proofs.Filling.{Filling, empty, fillings}
+use Rattle.turn.proofs.Filling.{Filling, empty}
 use Rattle.turn.proofs.by_value.empty_fields.Given as goal
 
 abbrev pub invariant-loop-i : goal.invariant-loop-i

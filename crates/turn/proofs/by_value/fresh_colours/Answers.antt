@@ -1,6 +1,4 @@
-use Rattle.std.specs.Prelude.{◌-◌, length}
-use borrow.Author.Rules.{rules}
-use Rattle.turn.proofs.Filling.{Filling, colours as colours-of, fillings}
+use Rattle.turn.proofs.Filling.{fillings}
 use Rattle.turn.proofs.by_value.fresh_colours.Goals as goal
 
 pub loop-i-init : goal.loop-i-init

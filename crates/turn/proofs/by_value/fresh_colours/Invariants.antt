@@ -1,5 +1,5 @@
 use Rattle.std.specs.Prelude.{◌-◌, length}
-use Rattle.turn.proofs.Filling.{Filling, colours as colours-of, fillings}
+use Rattle.turn.proofs.Filling.{Filling, colours as colours-of}
 use Rattle.turn.proofs.by_value.fresh_colours.Given as goal
 
 abbrev pub invariant-loop-i : goal.invariant-loop-i

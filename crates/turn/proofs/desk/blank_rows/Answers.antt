@@ -1,5 +1,4 @@
-use Rattle.std.proofs.Common.{◌<◌, length, arith}
-use borrow.Author.Rules.{rules}
+use Rattle.std.proofs.Common.{arith}
 use Rattle.turn.proofs.Blanking.{blank_begin, blank_next, blank_end}
 use Rattle.turn.proofs.desk.blank_rows.Goals as goal
 

@@ -1,4 +1,3 @@
-use borrow.Author.Rules.{rules}
 use Rattle.cells.proofs.Choosing.{picks}
 use Rattle.turn.specs.Lent.{rows_read}
 use Rattle.turn.proofs.desk.rows_read.Goals as goal

@@ -1,4 +1,3 @@
-use borrow.Author.Rules.{rules}
 use Rattle.turn.proofs.Seeing.{sees_of}
 use Rattle.turn.proofs.desk.sees.Goals as goal
 

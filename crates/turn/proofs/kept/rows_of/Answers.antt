@@ -1,4 +1,3 @@
-use borrow.Author.Rules.{rules}
 use Rattle.cells.proofs.Choosing.{picks}
 use Rattle.turn.specs.Lent.{own_rows}
 use Rattle.turn.proofs.kept.rows_of.Goals as goal

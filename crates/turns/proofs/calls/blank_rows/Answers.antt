@@ -1,6 +1,4 @@
-use Rattle.std.specs.Prelude.{◌-◌, length}
-use borrow.Author.Rules.{rules}
-use Rattle.turns.proofs.Blanking.{Blanking, blanks}
+use Rattle.turns.proofs.Blanking.{blanks}
 use Rattle.turns.proofs.calls.blank_rows.Goals as goal
 
 pub loop-at-init : goal.loop-at-init

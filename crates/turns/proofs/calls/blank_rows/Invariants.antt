@@ -1,5 +1,5 @@
 use Rattle.std.specs.Prelude.{◌-◌, length}
-use Rattle.turns.proofs.Blanking.{Blanking, blanks}
+use Rattle.turns.proofs.Blanking.{Blanking}
 use Rattle.turns.proofs.calls.blank_rows.Given as goal
 
 abbrev pub invariant-loop-at : goal.invariant-loop-at

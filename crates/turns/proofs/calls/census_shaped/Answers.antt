@@ -1,5 +1,4 @@
-use borrow.Author.Rules.{rules}
-use Rattle.turns.proofs.Ending.{fits, census-told}
+use Rattle.turns.proofs.Ending.{census-told}
 use Rattle.turns.proofs.calls.census_shaped.Goals as goal
 
 pub returns : goal.returns

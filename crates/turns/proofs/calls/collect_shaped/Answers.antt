@@ -1,5 +1,4 @@
-use borrow.Author.Rules.{rules}
-use Rattle.turns.proofs.Ending.{fits, collects}
+use Rattle.turns.proofs.Ending.{collects}
 use Rattle.turns.proofs.calls.collect_shaped.Goals as goal
 
 pub returns-then-is_refused : goal.returns-then-is_refused

@@ -1,4 +1,3 @@
-use borrow.Author.Rules.{rules}
 use Rattle.cells.proofs.Refusing.{refusals}
 use Rattle.turns.specs.Calls.{called}
 use Rattle.turns.proofs.Ending.{fits}

@@ -1,6 +1,4 @@
-use Rattle.std.specs.Prelude.{◌-◌}
-use borrow.Author.Rules.{rules}
-use Rattle.turns.proofs.Gathering.{Gathering, gathers}
+use Rattle.turns.proofs.Gathering.{gathers}
 use Rattle.turns.proofs.calls.gather_words.Goals as goal
 
 pub loop-i-init : goal.loop-i-init

@@ -1,5 +1,5 @@
 use Rattle.std.specs.Prelude.{◌-◌}
-use Rattle.turns.proofs.Gathering.{Gathering, gathers}
+use Rattle.turns.proofs.Gathering.{Gathering}
 use Rattle.turns.proofs.calls.gather_words.Given as goal
 
 abbrev pub invariant-loop-i : goal.invariant-loop-i

@@ -1,5 +1,4 @@
-use borrow.Author.Rules.{rules}
-use Rattle.turns.proofs.Ending.{fits, starts}
+use Rattle.turns.proofs.Ending.{starts}
 use Rattle.turns.proofs.calls.start_shaped.Goals as goal
 
 pub returns-then-is_refused : goal.returns-then-is_refused

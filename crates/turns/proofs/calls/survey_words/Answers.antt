@@ -1,6 +1,4 @@
-use Rattle.std.specs.Prelude.{◌-◌}
-use borrow.Author.Rules.{rules}
-use Rattle.turns.proofs.Surveying.{Surveying, surveys}
+use Rattle.turns.proofs.Surveying.{surveys}
 use Rattle.turns.proofs.calls.survey_words.Goals as goal
 
 pub loop-i-init : goal.loop-i-init

@@ -1,5 +1,5 @@
 use Rattle.std.specs.Prelude.{◌-◌}
-use Rattle.turns.proofs.Surveying.{Surveying, surveys}
+use Rattle.turns.proofs.Surveying.{Surveying}
 use Rattle.turns.proofs.calls.survey_words.Given as goal
 
 abbrev pub invariant-loop-i : goal.invariant-loop-i

@@ -1,6 +1,3 @@
-use lib.ListN.{length-set}
-use native.Mathlib.Omega.{arith}
-use borrow.Author.Rules.{rules}
 use Rattle.turns.proofs.Making.{puts}
 use Rattle.turns.proofs.calls.tell.Goals as goal
 

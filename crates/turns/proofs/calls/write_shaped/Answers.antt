@@ -1,5 +1,4 @@
-use borrow.Author.Rules.{rules}
-use Rattle.turns.proofs.Ending.{fits, writes}
+use Rattle.turns.proofs.Ending.{writes}
 use Rattle.turns.proofs.calls.write_shaped.Goals as goal
 
 pub returns-then-is_refused : goal.returns-then-is_refused

@@ -1,4 +1,3 @@
-use borrow.Author.Rules.{rules}
 use Rattle.turns.specs.Plain.{answer_number}
 use Rattle.turns.proofs.plain.answer_number.Goals as goal
 

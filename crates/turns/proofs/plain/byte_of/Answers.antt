@@ -1,4 +1,3 @@
-use borrow.Author.Rules.{rules}
 use Rattle.cells.proofs.Choosing.{keys}
 use Rattle.turns.specs.Plain.{byte_of}
 use Rattle.turns.proofs.plain.byte_of.Goals as goal

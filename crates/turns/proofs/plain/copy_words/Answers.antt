@@ -1,6 +1,5 @@
-use Rattle.std.specs.Prelude.{◌-◌}
 use borrow.Author.Rules.{rules}
-use Rattle.turns.proofs.Copying.{Copying, copies}
+use Rattle.turns.proofs.Copying.{copies}
 use Rattle.turns.proofs.plain.copy_words.Goals as goal
 
 pub loop-i-init : goal.loop-i-init

@@ -1,5 +1,5 @@
 use Rattle.std.specs.Prelude.{◌-◌}
-use Rattle.turns.proofs.Copying.{Copying, copies}
+use Rattle.turns.proofs.Copying.{Copying}
 use Rattle.turns.proofs.plain.copy_words.Given as goal
 
 abbrev pub invariant-loop-i : goal.invariant-loop-i

@@ -1,4 +1,3 @@
-use borrow.Author.Rules.{rules}
 use Rattle.cells.proofs.Choosing.{keys}
 use Rattle.turns.specs.Plain.{hold_of}
 use Rattle.turns.proofs.plain.hold_of.Goals as goal

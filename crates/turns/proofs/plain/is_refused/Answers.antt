@@ -1,4 +1,3 @@
-use borrow.Author.Rules.{rules}
 use Rattle.turns.specs.Plain.{is_refused}
 use Rattle.turns.proofs.plain.is_refused.Goals as goal
 

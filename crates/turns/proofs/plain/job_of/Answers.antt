@@ -1,4 +1,3 @@
-use borrow.Author.Rules.{rules}
 use Rattle.cells.proofs.Choosing.{keys}
 use Rattle.turns.proofs.Making.{makes}
 use Rattle.turns.specs.Plain.{job_of}

@@ -1,4 +1,3 @@
-use borrow.Author.Rules.{rules}
 use Rattle.turns.specs.Plain.{look_number}
 use Rattle.turns.proofs.plain.look_number.Goals as goal
 

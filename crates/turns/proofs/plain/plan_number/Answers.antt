@@ -1,4 +1,3 @@
-use borrow.Author.Rules.{rules}
 use Rattle.turns.specs.Plain.{plan_number}
 use Rattle.turns.proofs.plain.plan_number.Goals as goal
 

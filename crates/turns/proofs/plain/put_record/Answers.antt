@@ -1,4 +1,3 @@
-use borrow.Author.Rules.{rules}
 use Rattle.turns.proofs.Making.{puts}
 use Rattle.turns.proofs.plain.put_record.Goals as goal
 

@@ -1,4 +1,3 @@
-use borrow.Author.Rules.{rules}
 use Rattle.turns.proofs.Desk.{rows}
 use Rattle.turns.proofs.plain.put_row.Goals as goal
 

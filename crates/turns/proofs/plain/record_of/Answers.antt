@@ -1,4 +1,3 @@
-use borrow.Author.Rules.{rules}
 use Rattle.turns.proofs.Making.{makes}
 use Rattle.turns.proofs.plain.record_of.Goals as goal
 

@@ -1,4 +1,3 @@
-use borrow.Author.Rules.{rules}
 use Rattle.cells.proofs.Choosing.{picks}
 use Rattle.turns.proofs.Making.{makes}
 use Rattle.turns.specs.Plain.{storing_of}

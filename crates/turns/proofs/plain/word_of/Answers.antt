@@ -1,4 +1,3 @@
-use borrow.Author.Rules.{rules}
 use Rattle.cells.proofs.Choosing.{keys}
 use Rattle.turns.specs.Plain.{word_of}
 use Rattle.turns.proofs.plain.word_of.Goals as goal

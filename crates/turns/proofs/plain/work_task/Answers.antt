@@ -1,4 +1,3 @@
-use borrow.Author.Rules.{rules}
 use Rattle.turns.proofs.Making.{makes, work_task_lem}
 use Rattle.turns.proofs.plain.work_task.Goals as goal
 

@@ -1,8 +1,5 @@
-use Prim.Native.Nat.{◌-◌}
 use borrow.Author.Rules.{rules}
-use lib.ListN.{length}
-use Rattle.cells.proofs.Looping.{Tested, tests, tested-next}
-use Rattle.writer.specs.Used.{used}
+use Rattle.cells.proofs.Looping.{tests, tested-next}
 use Rattle.writer.proofs.creating.all_used.Goals as goal
 
 pub loop-i-init : goal.loop-i-init

@@ -1,6 +1,6 @@
 use Prim.Native.Nat.{◌-◌}
 use lib.ListN.{length}
-use Rattle.cells.proofs.Looping.{Tested, tests, tested-next}
+use Rattle.cells.proofs.Looping.{Tested}
 use Rattle.writer.specs.Used.{used}
 use Rattle.writer.proofs.creating.all_used.Given as goal
 

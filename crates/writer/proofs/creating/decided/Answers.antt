@@ -1,4 +1,3 @@
-use borrow.Author.Rules.{rules}
 use Rattle.cells.proofs.Choosing.{picks}
 use Rattle.writer.proofs.Arms.{via_hand}
 use Rattle.machine.specs.Creating.{decided}

@@ -1,6 +1,3 @@
-use borrow.Author.Rules.{rules}
-use lib.ListN.{length-set}
-use native.Mathlib.Omega.{arith}
 use native.Mathlib.Nat.{add-zero}
 use Rattle.machine.specs.Creating.{emptied}
 use Rattle.writer.proofs.creating.empty_cell.Goals as goal

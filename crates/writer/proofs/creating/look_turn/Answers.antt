@@ -1,4 +1,3 @@
-use borrow.Author.Rules.{rules}
 use Rattle.writer.proofs.Arms.{via_look, turned-row}
 use Rattle.machine.specs.Creating.{look}
 use Rattle.writer.proofs.creating.look_turn.Goals as goal

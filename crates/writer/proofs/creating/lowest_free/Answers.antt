@@ -1,9 +1,6 @@
-use Prim.Native.Nat.{◌-◌}
-use lib.ListN.{length}
 use borrow.Author.Rules.{rules}
 use Rattle.cells.proofs.Choosing.{picks}
 use Rattle.writer.proofs.Frees.{frees}
-use Rattle.writer.specs.Used.{Past}
 use Rattle.writer.proofs.creating.lowest_free.Goals as goal
 
 pub returns-then-b-eq0 : goal.returns-then-b-eq0

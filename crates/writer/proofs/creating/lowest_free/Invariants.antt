@@ -1,7 +1,5 @@
 use Prim.Native.Nat.{◌-◌}
 use lib.ListN.{length}
-use Rattle.cells.proofs.Choosing.{picks}
-use Rattle.writer.proofs.Frees.{frees}
 use Rattle.writer.specs.Used.{Past}
 use Rattle.writer.proofs.creating.lowest_free.Given as goal
 

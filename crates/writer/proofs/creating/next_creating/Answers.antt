@@ -1,4 +1,3 @@
-use borrow.Author.Rules.{rules}
 use Rattle.writer.proofs.Arms.{turns, at-look}
 use Rattle.machine.specs.Creating.{next_creating}
 use Rattle.writer.proofs.creating.next_creating.Goals as goal

@@ -1,8 +1,4 @@
-use Prim.Native.Nat.{◌-◌}
-use borrow.Author.Rules.{rules}
-use lib.ListN.{length}
 use Rattle.writer.proofs.Frees.{past_more}
-use Rattle.writer.specs.Used.{Past}
 use Rattle.writer.proofs.creating.past_used.Goals as goal
 
 pub loop-i-preserved : goal.loop-i-preserved

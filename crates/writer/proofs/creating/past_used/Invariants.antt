@@ -1,6 +1,5 @@
 use Prim.Native.Nat.{◌-◌}
 use lib.ListN.{length}
-use Rattle.writer.proofs.Frees.{past_more}
 use Rattle.writer.specs.Used.{Past}
 use Rattle.writer.proofs.creating.past_used.Given as goal
 

@@ -1,4 +1,3 @@
-use borrow.Author.Rules.{rules}
 use Rattle.cells.proofs.Refusing.{refusals}
 use Rattle.writer.proofs.Arms.{turns}
 use Rattle.machine.specs.Slots.{read_cell}

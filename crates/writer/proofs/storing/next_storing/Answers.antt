@@ -1,4 +1,3 @@
-use borrow.Author.Rules.{rules}
 use Rattle.writer.proofs.Arms.{at_plan}
 use Rattle.machine.specs.Storing.{next_storing}
 use Rattle.writer.proofs.storing.next_storing.Goals as goal

@@ -1,4 +1,3 @@
-use borrow.Author.Rules.{rules}
 use Rattle.writer.proofs.Arms.{turns, at_call}
 use Rattle.machine.specs.Writer.{turn_of}
 use Rattle.writer.proofs.turns.turn_of.Goals as goal
