@@ -15,7 +15,7 @@ use Rattle.machine.specs.declared.Row.{Row}
 use Rattle.machine.specs.declared.Report.{Report}
 use Rattle.machine.specs.declared.Report.TheVariants.{Refused}
 use Rattle.turn.specs.Lent.{own_rows}
-use Rattle.turn.proofs.Walking.{own-length}
+use Rattle.turn.proofs.OwnRows.{own_length}
 use Rattle.census.specs.Counting.{census_by}
 use Rattle.census.proofs.Sizes.{rows_few}
 
@@ -70,6 +70,6 @@ module _ (rec : Record) (desk : List Row) (fs cs : List ℕ) where
 
 pub kept-meets : (rec : Record) (rows : List Row) (fs cs : List ℕ) (k : ℕ) (r : Report) → length rows ≡ 8 → k ≡ own_rows rec.m → r ≡ census_by rec k rows fs cs → Meets counting (parts rec (take (own_rows rec.m) rows) fs cs) r (parts rec (take (own_rows rec.m) rows) fs cs)
 kept-meets rec rows fs cs k r l n e =
-    let own : length (take (own_rows rec.m) rows) ≡ own_rows rec.m = own-length rec.m rows l in
+    let own : length (take (own_rows rec.m) rows) ≡ own_rows rec.m = own_length rec.m rows l in
     meets rec (take (own_rows rec.m) rows) fs cs r
     (e ∙ ap (λ (j : ℕ). census_by rec j rows fs cs) (n ∙ sym own) ∙ by_value rec (take (own_rows rec.m) rows) fs cs rows (ap (λ (j : ℕ). take j rows) own))

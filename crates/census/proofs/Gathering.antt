@@ -19,12 +19,13 @@ pub record Copied (ys : List Row) (i : ℕ) (own : List Row) : Type 0 where
 pub copied_none : (ys own : List Row) → own ≡ replicate 8 fresh_row → Copied ys 0 own
 copied_none ys own e = record { long = ap length e ∙ length-replicate {A = Row} 8 fresh_row; same = refl }
 
-pub copied_more : (ys : List Row) (i : ℕ) (own own' : List Row) → Copied ys i own → i < 8 → i < length ys → own' ≡ set own i (get_or ys i fresh_row) → Copied ys (i + 1) own'
-copied_more ys i own own' k b l e =
+-- d is what an index past the end would read
+pub copied_more : (ys : List Row) (d : Row) (i : ℕ) (own own' : List Row) → Copied ys i own → i < 8 → i < length ys → own' ≡ set own i (get_or ys i d) → Copied ys (i + 1) own'
+copied_more ys d i own own' k b l e =
     let long = k.long in
     record {
-      long = ap length e ∙ length-set own i (get_or ys i fresh_row) ∙ long;
-      same = rw (e, add-one i) (take-suc-set own i (get_or ys i fresh_row) (omega arith) ∙ ap (λ (zs : List Row). zs ++ (get_or ys i fresh_row ∷ [])) k.same ∙ sym (take-suc ys i fresh_row l));
+      long = ap length e ∙ length-set own i (get_or ys i d) ∙ long;
+      same = rw (e, add-one i) (take-suc-set own i (get_or ys i d) (omega arith) ∙ ap (λ (zs : List Row). zs ++ (get_or ys i d ∷ [])) k.same ∙ sym (take-suc ys i d l));
     }
 
 pub own-le : (n : ℕ) → own_rows n ≤ n

@@ -46,7 +46,8 @@ pub fn gather(desk: &[Row]) -> [Row; 8]
     let mut own = fresh_rows();
     let mut i: usize = 0;
     while i < n {
-        own = with_row(own, i, desk[i]);
+        let next = with_row(own, i, desk[i]);
+        own = next;
         i += 1;
     }
     own

@@ -1,14 +1,7 @@
 pub mod Beginning
-pub mod Callees
-pub mod Calling
-pub mod Data
-pub mod Ending
+pub mod Blanking
 pub mod Filling
+pub mod OwnRows
 pub mod Laws
-pub mod Local
-pub mod Parts
 pub mod Seeing
-pub mod Shared
 pub mod Sizes
-pub mod Types
-pub mod Walking

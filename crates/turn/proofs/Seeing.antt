@@ -1,12 +1,12 @@
 -- What the collector sees of the desk: the survey of the rows that a turn reads, one row at a time, and that it is enough for the turn.
 use Rattle.std.specs.Prelude.{◌≡◌, ℕ, ◌+◌, ◌<◌, ◌≤◌, Bool, true, false, eqb, leb, List, [], ◌∷◌, ◌++◌, length, get_or, take}
 use mathlib.Core.Path.{refl}
+use Rattle.std.proofs.Common.{arith}
 use mathlib.Core.Bool.{true≢false}
 use native.Mathlib.Numerals.{add-one}
 use lib.Seq.{take-suc, take-length}
 use borrow.Author.Tests.{leb-false, lt-ltb}
 use Rattle.machine.specs.Choice.{pick, all, every}
-use Rattle.machine.specs.Store.{fresh_row}
 use Rattle.machine.specs.Stage.{posted}
 use Rattle.machine.specs.Range.{status_ok}
 use Rattle.machine.specs.Collector.{has_status, survey, marking, by_stage, collector_turn}
@@ -14,7 +14,6 @@ use Rattle.machine.specs.declared.Record.{Record}
 use Rattle.machine.specs.declared.Row.{Row}
 use Rattle.machine.specs.declared.Survey.{Survey}
 use Rattle.turn.specs.Lent.{waits, rows_read, unseen, sees, seen}
-use Rattle.turn.proofs.Walking.{pick-le}
 
 -- ---- row by row
 pub seen_none : (rec : Record) (desk : List Row) → unseen ≡ survey (posted rec.stage) (take 0 desk)
@@ -34,16 +33,26 @@ all_snoc t (y ∷ l) x = go (t y) (all_snoc t l x)
     go true e = e
     go false e = refl
 
-pub seen_more : (rec : Record) (desk : List Row) (i : ℕ) (s : Survey) → i < length desk → s ≡ survey (posted rec.stage) (take i desk) → sees s rec (get_or desk i fresh_row) ≡ survey (posted rec.stage) (take (i + 1) desk)
+-- d is what an index past the end would read
+pub seen_more : (rec : Record) (desk : List Row) (d : Row) (i : ℕ) (s : Survey) → i < length desk → s ≡ survey (posted rec.stage) (take i desk) → sees s rec (get_or desk i d) ≡ survey (posted rec.stage) (take (i + 1) desk)
 unfolding sees survey
-seen_more rec desk i s h e =
-    rw (e, add-one i, take-suc desk i fresh_row h)
-    (λ j. record { fit = all_snoc status_ok (take i desk) (get_or desk i fresh_row) j; same = all_snoc (has_status (posted rec.stage)) (take i desk) (get_or desk i fresh_row) j })
+seen_more rec desk d i s h e =
+    rw (e, add-one i, take-suc desk i d h)
+    (λ j. record { fit = all_snoc status_ok (take i desk) (get_or desk i d) j; same = all_snoc (has_status (posted rec.stage)) (take i desk) (get_or desk i d) j })
+
+-- all that this turn reads
+pub seen_all : (rec : Record) (desk : List Row) (s : Survey) (n i : ℕ) → n ≡ rows_read rec (length desk) → i ≡ n → s ≡ survey (posted rec.stage) (take i desk) → s ≡ seen rec desk
+unfolding seen
+seen_all rec desk s n i e h p = rw (h, e) at p
 
 -- f and g are what the callees made of the tests
 pub sees_of : (s : Survey) (rec : Record) (row : Row) (number : ℕ) (fit f g : Bool) → number ≡ posted rec.stage → fit ≡ status_ok row → f ≡ every (s.fit ∷ fit ∷ []) → g ≡ every (s.same ∷ eqb row.status number ∷ []) → ◌≡◌ {A = Survey} (record { fit = f; same = g }) (sees s rec row)
 unfolding sees has_status
 sees_of s rec row number fit f g p q a b = rw (a, b, p, q) refl
+
+pick-le : (t : Bool) (n : ℕ) → pick t n 0 ≤ n
+pick-le true n = omega arith
+pick-le false n = omega arith
 
 pub rows-read-le : (rec : Record) (rows : ℕ) → rows_read rec rows ≤ rows
 unfolding rows_read
