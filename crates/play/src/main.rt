@@ -1,6 +1,9 @@
 // Plays the text of standard input.
 #![tactic(auto)]
 
-fn main() {
-    playing::play_input();
+use std::io;
+use std::process::ExitCode;
+
+fn main(rt: HostRuntime) -> io::Result<ExitCode> {
+    playing::play_input(&rt)
 }

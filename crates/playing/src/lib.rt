@@ -1,198 +1,197 @@
 // The program's work, for any program: reads, plays and writes.
 #![tactic(auto)]
 
-ghost use Rattle.std.specs.Prelude.{◌≡◌, ◌+◌, ◌<◌, ◌≤◌, length};
+ghost use Rattle.std.specs.Prelude.{◌≡◌, ◌≢◌, ℕ, ◌<◌, ◌≤◌, nat_lt, length, take, IfOk, IfErr, OnOk};
+ghost use Rattle.std.specs.Io.{ReadsAtMost, WritesAtMost};
+ghost use Rattle.std.specs.Io.KnownBytes.{Appends, Keeps, ReadConsumes, WriteAppends};
+ghost use Rattle.std.specs.IoError.{error_kind};
 ghost use Rattle.playing.specs.Between.{Between};
 
 use player::Play;
+use std::io;
+use std::io::{ErrorKind, Read, Write};
+use std::process::ExitCode;
 
-// Whether to go on, and the player.
-#[derive(Drop)]
-struct Some {
-    go: bool,
-    play: Play,
-}
+// What a shell tells of a program that SIGPIPE ended: 128 and the signal's number.
+const READER_GONE: u8 = 141;
 
-// Whether all was written, the next byte's place, and the player.
-#[derive(Drop)]
-struct Sent {
-    go: bool,
-    next: usize,
-    play: Play,
-}
-
-// One write, made again while a signal interrupts it: how many bytes were taken, or 0 where it failed, which is told on standard error.
-fn put_some(bytes: &[u8]) -> usize
-    ensures { result ≤ length bytes.now }
+// One write, made again while a signal interrupts it: how many bytes were taken.
+fn put_some<W: Write>(writer: &mut W, bytes: &[u8]) -> io::Result<usize>
+    ensures bound { WritesAtMost result bytes.now }
+    ensures some { IfOk result (λ put. 0 < put) }
+    ensures bytes { WriteAppends (W.contents writer.old) (W.contents writer.new) result bytes.now }
+    ensures retried { IfErr result (λ e. error_kind e ≢ ErrorKind.Interrupted) }
 {
-    let mut tries = u64::MAX;
-    while tries > 0 {
-        let put = libc::write(libc::STDOUT_FILENO, bytes);
-        if put > 0 {
-            return io::count(put, bytes);
+    for _ in 0..u64::MAX {
+        match writer.write(bytes) {
+            Ok(0) => return Err(io::Error::new(ErrorKind::WriteZero, "nothing was taken")),
+            Ok(put) => return Ok(put),
+            Err(e) => {
+                if e.kind() != ErrorKind::Interrupted {
+                    return Err(e);
+                }
+            }
         }
-        if put == 0 {
-            io::write_all(libc::STDERR_FILENO, b"play: writing: nothing was taken\n");
-            return 0;
-        }
-        if os::errno() != libc::EINTR {
-            os::fail(b"play: writing");
-            return 0;
-        }
-        tries -= 1;
     }
-    0
+    Err(io::Error::new(ErrorKind::TimedOut, "each write was interrupted"))
 }
 
-// Writes what stands in the output buffer: whether all of it was taken.
-fn flush(out: &[u8], at: usize) -> bool
+// Writes what stands in the output buffer.
+fn flush<W: Write>(writer: &mut W, out: &[u8], at: usize) -> io::Result<()>
     requires { at ≤ length out.now }
+    ensures all { OnOk result (Appends (W.contents writer.old) (W.contents writer.new) (take at out.now)) }
+    ensures part { (k : ℕ) × (k ≤ at) × Appends (W.contents writer.old) (W.contents writer.new) (take k out.now) }
 {
     let mut from = 0;
     while from < at {
-        let put = put_some(&out[from..at]);
-        if put == 0 {
-            return false;
-        }
-        from += put;
+        from += put_some(writer, &out[from..at])?;
     }
-    true
+    Ok(())
 }
 
-// Plays bytes of a chunk from `from` on, at least one, and writes what they gave.
-fn send(
+// Plays bytes of a chunk from `from` on, at least one, and writes what they gave: the next byte's place.
+fn send<W: Write>(
+    writer: &mut W,
     chunk: &[u8],
     from: usize,
     line: &mut [u8],
     out: &mut [u8],
     fields: &mut [u16],
     colours: &mut [u8],
-    p: Play,
-) -> Sent
-    requires between { Between line.old out.old fields.old colours.old p }
+    play: &mut Play,
+) -> io::Result<usize>
+    requires between { Between line.old out.old fields.old colours.old play.old }
     requires from_in_bounds { from < length chunk.now }
-    ensures { (from < result.next) × (result.next ≤ length chunk.now) × Between line.new out.new fields.new colours.new result.play }
+    ensures next { IfOk result (λ next. (from < next) × (next ≤ length chunk.now)) }
+    ensures between { Between line.new out.new fields.new colours.new play.new }
 {
-    let f = player::take_bytes(chunk, from, line, out, fields, colours, p);
-    let q = f.play;
-    let go = flush(out, q.at);
-    let kept = player::emptied(q);
-    Sent {
-        go: go,
-        next: f.next,
-        play: kept,
-    }
+    let fed = player::take_bytes(chunk, from, line, out, fields, colours, *play);
+    *play = player::emptied(fed.play);
+    flush(writer, out, fed.play.at)?;
+    Ok(fed.next)
 }
 
-// Plays all bytes of a chunk, unless a write fails.
-fn drain(
+// Plays all bytes of a chunk, unless a write fails: whether lines may follow.
+fn drain<W: Write>(
+    writer: &mut W,
     chunk: &[u8],
     line: &mut [u8],
     out: &mut [u8],
     fields: &mut [u16],
     colours: &mut [u8],
-    start: Play,
-) -> Some
-    requires { Between line.old out.old fields.old colours.old start }
-    ensures { Between line.new out.new fields.new colours.new result.play }
+    play: &mut Play,
+) -> io::Result<bool>
+    requires { Between line.old out.old fields.old colours.old play.old }
+    ensures between { Between line.new out.new fields.new colours.new play.new }
+    ensures more { IfOk result (λ more. more ≡ nat_lt play.new.count 4294967295) }
 {
-    let mut p = start;
     let mut from = 0;
     while from < chunk.len() {
-        let s = send(chunk, from, line, out, fields, colours, p);
-        p = s.play;
-        from = s.next;
-        if !s.go {
-            return Some { go: false, play: p };
-        }
+        from = send(writer, chunk, from, line, out, fields, colours, play)?;
     }
-    Some {
-        go: p.count < 4294967295,
-        play: p,
-    }
+    Ok(play.count < u32::MAX)
 }
 
 // The end of the input: the bytes after the last line end are a line too.
-fn close_text(line: &[u8], out: &mut [u8], fields: &mut [u16], colours: &mut [u8], p: Play)
-    requires { Between line.now out.old fields.old colours.old p }
+fn close_text<W: Write>(
+    writer: &mut W,
+    line: &[u8],
+    out: &mut [u8],
+    fields: &mut [u16],
+    colours: &mut [u8],
+    play: Play,
+) -> io::Result<()>
+    requires { Between line.now out.old fields.old colours.old play }
 {
-    let q = player::finish(line, out, fields, colours, p);
-    flush(out, q.at);
+    let last = player::finish(line, out, fields, colours, play);
+    flush(writer, out, last.at)
 }
 
-// One read, made again while a signal interrupts it: how many bytes came, 0 at the end of the input, or less where it failed, which is told
-// on standard error.
-fn take_some(input: &mut [u8]) -> isize
-    ensures { length input.new ≡ length input.old }
+// One read, made again while a signal interrupts it: how many bytes came, 0 at the end of the input.
+fn take_some<R: Read>(reader: &mut R, input: &mut [u8]) -> io::Result<usize>
+    ensures kept { length input.new ≡ length input.old }
+    ensures bound { ReadsAtMost result input.new }
+    ensures bytes { ReadConsumes (R.remaining reader.old) (R.remaining reader.new) result input.new }
+    ensures retried { IfErr result (λ e. error_kind e ≢ ErrorKind.Interrupted) }
 {
-    let mut tries = u64::MAX;
-    while tries > 0 {
-        let got = libc::read(libc::STDIN_FILENO, input);
-        if got >= 0 {
-            return got;
+    for _ in 0..u64::MAX {
+        match reader.read(input) {
+            Ok(got) => return Ok(got),
+            Err(e) => {
+                if e.kind() != ErrorKind::Interrupted {
+                    return Err(e);
+                }
+            }
         }
-        if os::errno() != libc::EINTR {
-            os::fail(b"play: reading");
-            return got;
-        }
-        tries -= 1;
     }
-    -1
+    Err(io::Error::new(ErrorKind::TimedOut, "each read was interrupted"))
 }
 
-// Reads once, and plays what came. Where a read fails, the line that it cut is not played.
-fn read_some(
+// Reads once, and plays what came: whether lines may follow. Where a read fails, the line that it cut is not played.
+fn read_some<R: Read, W: Write>(
+    reader: &mut R,
+    writer: &mut W,
     input: &mut [u8],
     line: &mut [u8],
     out: &mut [u8],
     fields: &mut [u16],
     colours: &mut [u8],
-    p: Play,
-) -> Some
-    requires { Between line.old out.old fields.old colours.old p }
-    ensures { Between line.new out.new fields.new colours.new result.play }
+    play: &mut Play,
+) -> io::Result<bool>
+    requires { Between line.old out.old fields.old colours.old play.old }
+    ensures { Between line.new out.new fields.new colours.new play.new }
 {
-    let got = take_some(input);
-    if got < 0 {
-        return Some { go: false, play: p };
-    }
+    let got = take_some(reader, input)?;
     if got == 0 {
-        close_text(line, out, fields, colours, p);
-        return Some { go: false, play: p };
+        close_text(writer, line, out, fields, colours, *play)?;
+        return Ok(false);
     }
-    let n = io::count(got, input);
-    drain(&input[..n], line, out, fields, colours, p)
+    drain(writer, &input[..got], line, out, fields, colours, play)
 }
 
-fn play_all(
+// Reads, plays and writes until the input ends or the last line is answered.
+fn play_all<R: Read, W: Write>(
+    reader: &mut R,
+    writer: &mut W,
     input: &mut [u8],
     line: &mut [u8],
     out: &mut [u8],
     fields: &mut [u16],
     colours: &mut [u8],
-)
-    requires value { 65 ≡ length line.old }
-    requires in_bounds { 77 ≤ length out.old }
-    requires value_2 { (16384 ≡ length fields.old) × (4096 ≡ length colours.old) }
+) -> io::Result<()>
+    requires line { 65 ≡ length line.old }
+    requires out { 77 ≤ length out.old }
+    requires store { (16384 ≡ length fields.old) × (4096 ≡ length colours.old) }
 {
-    let mut p = player::unstarted();
-    let mut turns = u64::MAX;
-    while turns > 0 {
-        let s = read_some(input, line, out, fields, colours, p);
-        if !s.go {
-            return;
+    let mut play = player::unstarted();
+    for _ in 0..u64::MAX {
+        if !read_some(reader, writer, input, line, out, fields, colours, &mut play)? {
+            return Ok(());
         }
-        p = s.play;
-        turns -= 1;
     }
+    Ok(())
 }
 
-// Plays the text of standard input on the player's own store, and writes an output line for each line.
-pub fn play_input() {
-    let mut input = io::large_buffer();
-    let mut out = io::large_buffer();
+// Plays the text of standard input on the player's own store, and writes an output line for each line. Where the reader of the output goes
+// away, the player ends quietly, as any program does.
+pub fn play_input<R: Input + Print>(rt: &R) -> io::Result<ExitCode> {
+    let mut input = [0u8; 65536];
+    let mut out = [0u8; 65536];
     let mut line = [0u8; 65];
     let mut fields: [u16; 16384] = [65535; 16384];
     let mut colours: [u8; 4096] = [0; 4096];
-    play_all(&mut input, &mut line, &mut out, &mut fields, &mut colours);
+    let played = play_all(
+        &mut rt.reader(),
+        &mut io::writer(rt),
+        &mut input,
+        &mut line,
+        &mut out,
+        &mut fields,
+        &mut colours,
+    );
+    match played {
+        Ok(()) => Ok(ExitCode::SUCCESS),
+        Err(e) if e.kind() == ErrorKind::BrokenPipe => Ok(ExitCode::from(READER_GONE)),
+        Err(e) => Err(e),
+    }
 }

@@ -4,6 +4,7 @@
 
 use machine::{Answer, Call, Job, Record, Row};
 use moves::cycle_bound;
+use std::io;
 use turn::kept::{Kept, collect_kept, start_kept, write_kept};
 
 const NONE: u16 = 65535;
@@ -32,97 +33,95 @@ fn blank() -> Kept {
     }
 }
 
-fn say(answer: Answer) {
+fn say(rt: &impl Print, answer: Answer) -> io::Result<()> {
     match answer {
-        Answer::Done => {
-            io::write_all(1, b"done\n");
-        }
-        Answer::More => {
-            io::write_all(1, b"more\n");
-        }
-        Answer::Worked => {
-            io::write_all(1, b"worked\n");
-        }
-        Answer::Waited => {
-            io::write_all(1, b"waited\n");
-        }
-        Answer::Refused(k) => {
-            io::write_all(1, b"refused ");
-            io::print_decimal(1, k as u64);
-            io::write_all(1, b"\n");
-        }
+        Answer::Done => println!(rt; "done"),
+        Answer::More => println!(rt; "more"),
+        Answer::Worked => println!(rt; "worked"),
+        Answer::Waited => println!(rt; "waited"),
+        Answer::Refused(k) => println!(rt; "refused {k}"),
     }
 }
 
 // A turn of writer 0.
-fn writes(site: Kept, fields: &mut [u16], colours: &mut [u8], call: Call) -> Kept {
+fn writes(
+    rt: &impl Print,
+    site: Kept,
+    fields: &mut [u16],
+    colours: &mut [u8],
+    call: Call,
+) -> io::Result<Kept> {
     let rows = site.rows;
     let next = write_kept(site.rec, rows, fields, colours, 0, call);
-    let answer = next.answer;
-    io::write_all(1, b"writer ");
-    say(answer);
-    next
+    print!(rt; "writer ")?;
+    say(rt, next.answer)?;
+    Ok(next)
 }
 
 // So many turns of the collector.
-fn collects(site: Kept, fields: &[u16], colours: &mut [u8], turns: u64) -> Kept {
+fn collects(
+    rt: &impl Print,
+    site: Kept,
+    fields: &[u16],
+    colours: &mut [u8],
+    turns: u64,
+) -> io::Result<Kept> {
     let mut now = site;
-    let mut i = 0;
-    while i < turns {
+    for _ in 0..turns {
         let rows = now.rows;
         now = collect_kept(now.rec, rows, fields, colours);
-        let answer = now.answer;
-        io::write_all(1, b"collector ");
-        say(answer);
-        i += 1;
+        print!(rt; "collector ")?;
+        say(rt, now.answer)?;
     }
-    now
+    Ok(now)
 }
 
-// The nine turns after the first of an answer to posted 0.
-fn nexts(site: Kept, fields: &mut [u16], colours: &mut [u8], turns: u64) -> Kept {
+// So many turns in which writer 0 goes on with its job.
+fn nexts(
+    rt: &impl Print,
+    site: Kept,
+    fields: &mut [u16],
+    colours: &mut [u8],
+    turns: u64,
+) -> io::Result<Kept> {
     let mut now = site;
-    let mut i = 0;
-    while i < turns {
-        now = writes(now, fields, colours, Call::Next);
-        i += 1;
+    for _ in 0..turns {
+        now = writes(rt, now, fields, colours, Call::Next)?;
     }
-    now
+    Ok(now)
 }
 
 fn wide(x: u8) -> u64 {
-    x as u64
+    u64::from(x)
 }
 
-fn bound(n: u16, g: u16) {
-    io::write_all(1, b"at most ");
-    io::print_decimal(1, cycle_bound(n, g));
-    io::write_all(1, b" turns\n");
+fn bound(rt: &impl Print, n: u16, g: u16) -> io::Result<()> {
+    println!(rt; "at most {} turns", cycle_bound(n, g))
 }
 
-fn main() {
+fn main(rt: HostRuntime) -> io::Result<()> {
     let mut fields = [0u16; 8];
     let mut colours = [9u8; 2];
     let fresh = blank();
     let rows = fresh.rows;
     let mut site = start_kept(2, 1, 1, fresh.rec, rows, &mut fields, &mut colours);
-    site = writes(site, &mut fields, &mut colours, Call::Create(0));
-    site = nexts(site, &mut fields, &mut colours, 2);
-    site = writes(site, &mut fields, &mut colours, Call::Drop(0));
-    site = collects(site, &fields, &mut colours, 2);
-    site = writes(site, &mut fields, &mut colours, Call::Answer);
-    site = collects(site, &fields, &mut colours, 1);
-    site = writes(site, &mut fields, &mut colours, Call::Answer);
-    site = collects(site, &fields, &mut colours, 1);
-    site = writes(site, &mut fields, &mut colours, Call::Answer);
-    site = nexts(site, &mut fields, &mut colours, 9);
-    site = collects(site, &fields, &mut colours, 20);
-    io::print_decimal(1, site.rec.count as u64);
-    io::write_all(1, b" turns, colours ");
-    io::print_decimal(1, wide(colours[0]));
-    io::write_all(1, b" ");
-    io::print_decimal(1, wide(colours[1]));
-    io::write_all(1, b"\n");
-    bound(2, 1);
-    bound(4096, 16);
+    site = writes(&rt, site, &mut fields, &mut colours, Call::Create(0))?;
+    site = nexts(&rt, site, &mut fields, &mut colours, 2)?;
+    site = writes(&rt, site, &mut fields, &mut colours, Call::Drop(0))?;
+    site = collects(&rt, site, &fields, &mut colours, 2)?;
+    site = writes(&rt, site, &mut fields, &mut colours, Call::Answer)?;
+    site = collects(&rt, site, &fields, &mut colours, 1)?;
+    site = writes(&rt, site, &mut fields, &mut colours, Call::Answer)?;
+    site = collects(&rt, site, &fields, &mut colours, 1)?;
+    site = writes(&rt, site, &mut fields, &mut colours, Call::Answer)?;
+    site = nexts(&rt, site, &mut fields, &mut colours, 9)?;
+    site = collects(&rt, site, &fields, &mut colours, 20)?;
+    println!(rt;
+        "{} turns, colours {} {}",
+        site.rec.count,
+        wide(colours[0]),
+        wide(colours[1])
+    )?;
+    bound(&rt, 2, 1)?;
+    bound(&rt, 4096, 16)
 }
