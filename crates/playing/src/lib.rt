@@ -1,11 +1,14 @@
 // The program's work, for any program: reads, plays and writes.
 #![tactic(auto)]
 
-ghost use Rattle.std.specs.Prelude.{◌≡◌, ◌≢◌, ℕ, ◌<◌, ◌≤◌, nat_lt, length, take, IfOk, IfErr, OnOk};
+ghost use Rattle.std.specs.Prelude.{◌≡◌, ◌≢◌, ℕ, ◌<◌, ◌≤◌, nat_lt, List, [], ◌++◌, length, take, drop, IfOk, IfErr, OnOk, OnErr};
+ghost use Rattle.std.specs.Bool.{MatchBool};
 ghost use Rattle.std.specs.Io.{ReadsAtMost, WritesAtMost};
 ghost use Rattle.std.specs.Io.KnownBytes.{Appends, Keeps, ReadConsumes, WriteAppends};
 ghost use Rattle.std.specs.IoError.{error_kind};
+ghost use Rattle.player.specs.Play.{total, played};
 ghost use Rattle.playing.specs.Between.{Between};
+ghost use Rattle.playing.specs.Written.{Written, WrittenInPart, Continues, Finishes, FinishesInPart};
 
 use player::Play;
 use std::io;
@@ -64,6 +67,11 @@ fn send<W: Write>(
     requires from_in_bounds { from < length chunk.now }
     ensures next { IfOk result (λ next. (from < next) × (next ≤ length chunk.now)) }
     ensures between { Between line.new out.new fields.new colours.new play.new }
+    ensures written { IfOk result (λ next. Written (W.contents writer.old) (W.contents writer.new)
+        (λ rest. total line.old out.old fields.old colours.old play.old (drop from chunk.now ++ rest))
+        (λ rest. total line.new out.new fields.new colours.new play.new (drop next chunk.now ++ rest))) }
+    ensures part { OnErr result (WrittenInPart (W.contents writer.old) (W.contents writer.new)
+        (λ rest. total line.old out.old fields.old colours.old play.old (drop from chunk.now ++ rest))) }
 {
     let fed = player::take_bytes(chunk, from, line, out, fields, colours, *play);
     *play = player::emptied(fed.play);
@@ -84,6 +92,11 @@ fn drain<W: Write>(
     requires { Between line.old out.old fields.old colours.old play.old }
     ensures between { Between line.new out.new fields.new colours.new play.new }
     ensures more { IfOk result (λ more. more ≡ nat_lt play.new.count 4294967295) }
+    ensures written { OnOk result (Written (W.contents writer.old) (W.contents writer.new)
+        (λ rest. total line.old out.old fields.old colours.old play.old (chunk.now ++ rest))
+        (total line.new out.new fields.new colours.new play.new)) }
+    ensures part { OnErr result (WrittenInPart (W.contents writer.old) (W.contents writer.new)
+        (λ rest. total line.old out.old fields.old colours.old play.old (chunk.now ++ rest))) }
 {
     let mut from = 0;
     while from < chunk.len() {
@@ -102,6 +115,10 @@ fn close_text<W: Write>(
     play: Play,
 ) -> io::Result<()>
     requires { Between line.now out.old fields.old colours.old play }
+    ensures written { OnOk result (Appends (W.contents writer.old) (W.contents writer.new)
+        (total line.now out.old fields.old colours.old play [])) }
+    ensures part { OnErr result (WrittenInPart (W.contents writer.old) (W.contents writer.new)
+        (λ rest. total line.now out.old fields.old colours.old play [])) }
 {
     let last = player::finish(line, out, fields, colours, play);
     flush(writer, out, last.at)
@@ -139,7 +156,14 @@ fn read_some<R: Read, W: Write>(
     play: &mut Play,
 ) -> io::Result<bool>
     requires { Between line.old out.old fields.old colours.old play.old }
-    ensures { Between line.new out.new fields.new colours.new play.new }
+    ensures between { Between line.new out.new fields.new colours.new play.new }
+    ensures played { 0 < length input.old → IfOk result (λ more. MatchBool more
+        (Continues (R.remaining reader.old) (R.remaining reader.new) (W.contents writer.old) (W.contents writer.new)
+        (total line.old out.old fields.old colours.old play.old) (total line.new out.new fields.new colours.new play.new))
+        (Finishes (R.remaining reader.old) (W.contents writer.old) (W.contents writer.new)
+        (total line.old out.old fields.old colours.old play.old))) }
+    ensures part { 0 < length input.old → OnErr result (FinishesInPart (R.remaining reader.old)
+        (W.contents writer.old) (W.contents writer.new) (total line.old out.old fields.old colours.old play.old)) }
 {
     let got = take_some(reader, input)?;
     if got == 0 {
@@ -162,6 +186,10 @@ fn play_all<R: Read, W: Write>(
     requires line { 65 ≡ length line.old }
     requires out { 77 ≤ length out.old }
     requires store { (16384 ≡ length fields.old) × (4096 ≡ length colours.old) }
+    ensures played { 0 < length input.old → OnOk result
+        (Finishes (R.remaining reader.old) (W.contents writer.old) (W.contents writer.new) played) }
+    ensures part { 0 < length input.old → OnErr result
+        (FinishesInPart (R.remaining reader.old) (W.contents writer.old) (W.contents writer.new) played) }
 {
     let mut play = player::unstarted();
     for _ in 0..u64::MAX {
@@ -169,7 +197,7 @@ fn play_all<R: Read, W: Write>(
             return Ok(());
         }
     }
-    Ok(())
+    Err(io::Error::new(ErrorKind::TimedOut, "the input does not end"))
 }
 
 // Plays the text of standard input on the player's own store, and writes an output line for each line. Where the reader of the output goes
