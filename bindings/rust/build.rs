@@ -1,4 +1,4 @@
-//! Finds libturns.a: in `TURNS_LIB_DIR`, or where `rt staticlib turns` puts it.
+//! Finds libturns.a: in `TURNS_LIB_DIR`, or where `./archive` puts it.
 
 use std::env;
 use std::path::{Path, PathBuf};
@@ -27,7 +27,7 @@ fn main() {
     println!("cargo::rustc-link-lib=static=turns");
 }
 
-/// Where `rt staticlib turns` puts the archive: below the root, of which this is bindings/rust.
+/// Where `./archive` puts the archive: below the root, of which this is bindings/rust.
 fn built() -> PathBuf {
     let package = env::var_os("CARGO_MANIFEST_DIR").map_or_else(PathBuf::new, PathBuf::from);
     let package = package.canonicalize().unwrap_or(package);
@@ -42,12 +42,12 @@ fn missing(archive: &Path, given: bool) -> String {
         format!(
             "there is no {archive}.\n\
              TURNS_LIB_DIR must name the directory that libturns.a is in; without it the archive \
-             is looked for where `rt staticlib turns` puts it."
+             is looked for where `./archive` puts it."
         )
     } else {
         format!(
             "there is no {archive}.\n\
-             Run `rt staticlib turns` at the root of the turn library, which proves the archive \
+             Run `./archive` at the root of the turn library, which proves the archive \
              and builds it; or set TURNS_LIB_DIR to the directory that libturns.a is in."
         )
     }

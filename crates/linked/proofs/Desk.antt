@@ -5,7 +5,8 @@ use Rattle.std.proofs.Math.ListN.{get_or-append}
 use Rattle.machine.specs.Store.{fresh_row}
 use Rattle.machine.specs.declared.Row.{Row}
 use Rattle.turns.specs.Plain.{row_of, rows_of, desk_of, words_of, row_words, with_row}
-use Rattle.turns.specs.PlainLaws.{RowFits, row_back}
+use Rattle.turns.specs.Fits.{RowFits}
+use Rattle.turns.proofs.PlainLaws.{row_back}
 
 -- ---- the first row
 -- it is told by the first 16 words, whatever stands behind them

@@ -14,7 +14,8 @@ use Rattle.machine.specs.declared.Job.TheVariants.{Idle, Busy}
 use Rattle.machine.specs.declared.Work.TheVariants.{Answering, Storing, Creating}
 use Rattle.runs.specs.Abs.{Eight}
 use Rattle.runs.specs.Range.{numbers_ok, InRange}
-use Rattle.turns.specs.PlainLaws.{JobFits, RowFits, RecordFits, small}
+use Rattle.turns.specs.Fits.{JobFits, RowFits, RecordFits}
+use Rattle.turns.proofs.PlainLaws.{small}
 use Rattle.linked.specs.Tellable.{Tellable}
 
 -- ---- a row: its job's numbers, and all of it

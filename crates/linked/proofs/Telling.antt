@@ -4,7 +4,7 @@ use Rattle.std.proofs.Common.{sym, ap, ◌∙◌, arith, get_or-set_same}
 use Rattle.machine.specs.Store.{Store, parts, fresh_row}
 use Rattle.machine.specs.declared.Row.{Row}
 use Rattle.turns.specs.Plain.{record_of, numbers_of, desk_of, with_row}
-use Rattle.turns.specs.PlainLaws.{record_back}
+use Rattle.turns.proofs.PlainLaws.{record_back}
 use Rattle.turns.specs.Calls.{Lent, all_after, row_after, record_after}
 use Rattle.turns.proofs.Desk.{desk-length}
 use Rattle.linked.proofs.Desk.{put-length, desk-put, rows-length, desk-written}

@@ -26,8 +26,8 @@ use Rattle.census.specs.Counting.{census_by as countedBy}
 use Rattle.census.proofs.Answers.{census-meets}
 use Rattle.turns.specs.Plain.{record_of, numbers_of, Standing, desk_of, row_words, with_row, answer_number, is_refused}
 use Rattle.turns.specs.Calls.{Lent, lent, store_of, shaped, Shaped, result_of, ended, made, all_after, row_after, record_after, Told, told}
-use Rattle.turns.specs.PlainLaws.{sizes-exact}
-use Rattle.turns.specs.CallLaws.{shape_fits}
+use Rattle.turns.proofs.PlainLaws.{sizes-exact}
+use Rattle.turns.proofs.CallLaws.{shape_fits}
 use Rattle.turns.proofs.Desk.{desk-length}
 use Rattle.turns.specs.Unchanged.{refused-idles, write-still, collect-same, collect-keeps, start-still, start_goes}
 

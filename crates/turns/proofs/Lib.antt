@@ -1,3 +1,6 @@
+pub mod PlainLaws
+pub mod RowLaws
+pub mod CallLaws
 pub mod Making
 pub mod Copying
 pub mod Desk

@@ -1,7 +1,5 @@
 pub mod Plain
 pub mod Calls
-pub mod PlainLaws
-pub mod RowLaws
+pub mod Fits
 pub mod Unchanged
-pub mod CallLaws
 pub mod Determined

@@ -10,7 +10,7 @@ use Rattle.machine.specs.ChoiceLaws.{hold}
 use Rattle.machine.specs.Range.{status_ok, stored_ok, made_ok, work_ok, job_ok, row_ok}
 use Rattle.turns.specs.declared.plain.Task.{Task}
 use Rattle.turns.specs.Plain.{byte_of, plan_of, look_of, task_with, storing_of, creating_of, job_of, plan_number, look_number, work_task, task_of, task_words, row_of, words_of}
-use Rattle.turns.specs.PlainLaws.{byte_exact}
+use Rattle.turns.proofs.PlainLaws.{byte_exact}
 
 plan_exact : (step : ℕ) → step < 8 → plan_number (plan_of step) ≡ step
 unfolding plan_of plan_number

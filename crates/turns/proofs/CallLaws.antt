@@ -13,7 +13,7 @@ use Rattle.machine.specs.Machine.{put_record, collect}
 use Rattle.machine.specs.declared.Answer.{Answer}
 use Rattle.machine.specs.declared.Answer.TheVariants.{Done, More, Worked, Waited, Refused}
 use Rattle.turns.specs.Plain.{answer_number, is_refused}
-use Rattle.turns.specs.PlainLaws.{record_exact}
+use Rattle.turns.proofs.PlainLaws.{record_exact}
 use Rattle.turns.specs.Unchanged.{idles, stage-same}
 use Rattle.turns.specs.Calls.{Lent, lent, store_of, shaped, Shaped, Result, ended, made, called, record_after, collect_by}
 

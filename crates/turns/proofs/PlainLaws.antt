@@ -19,6 +19,7 @@ use Rattle.machine.specs.declared.Job.{Job}
 use Rattle.machine.specs.declared.Job.TheVariants.{Idle, Busy}
 use Rattle.machine.specs.declared.Work.{Work}
 use Rattle.machine.specs.declared.Work.TheVariants.{Answering, Storing, Creating}
+use Rattle.turns.specs.Fits.{WorkFits, JobFits, RowFits, RecordFits}
 use Rattle.turns.specs.Plain.{byte_of, word_of, hold_of, record_of, numbers_of, Standing, plan_of, look_of, storing_of, creating_of, job_of, plan_number, look_number, work_task, task_of, row_of, words_of}
 
 -- ---- a number that fits
@@ -45,21 +46,6 @@ from_all zero i l e = sym (drop_of_length-le l {i = i} (omega arith))
 from_all (suc n) i l e = ap (λ (r : List ℕ). slice_index l i ∷ r) (from_all n (suc i) l (omega arith)) ∙ sym (drop-cons l i 0 (omega arith))
 
 -- ---- a row there and back
--- the numbers of a job that are bytes
-abbrev pub WorkFits : Work → Type 0
-WorkFits (Answering k) = k < 256
-WorkFits (Storing s p) = s.field < 256
-WorkFits (Creating m) = m.slot < 256
-
-abbrev pub JobFits : Job → Type 0
-JobFits Idle = Unit {0}
-JobFits (Busy w) = WorkFits w
-
-pub record RowFits (row : Row) : Type 0 where
-  pub slots : length row.slots ≡ 8
-  pub status : row.status < 256
-  pub job : JobFits row.job
-
 plan_back : (p : Plan) → (nat_lt (plan_number p) 8 ≡ true) × (plan_of (plan_number p) ≡ p)
 unfolding plan_number plan_of
 plan_back FullRead = (refl, refl)
@@ -94,16 +80,6 @@ row_back row f =
     λ i. record { status = byte_back row.status f.status i; slots = from_all 8 0 row.slots (sym f.slots) i; job = job_back row.job f.job i }
 
 -- ---- a record there and back
-pub record RecordFits (rec : Record) : Type 0 where
-  pub n : rec.n < 65536
-  pub g : rec.g < 65536
-  pub m : rec.m < 65536
-  pub stage : rec.stage < 256
-  pub place : rec.place < 65536
-  pub part : rec.part < 256
-  pub hold : rec.hold < 65536
-  pub found : rec.found < 256
-
 pub record_back : (rec : Record) → RecordFits rec → record_of (numbers_of rec) ≡ rec
 unfolding record_of numbers_of
 record_back rec f =
