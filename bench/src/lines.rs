@@ -50,7 +50,7 @@ pub fn table() {
     let plain = root.join("target/rust/release/plainplay");
     head("the player", "lines");
     if !proved.exists() || !plain.exists() {
-        println!("not built: rt check play; cargo build --release -p reference");
+        println!("not built: ./play examples/keyframe.turns; cargo build --release -p reference");
         return;
     }
     let input = root.join("target/bench.turns");

@@ -15,6 +15,13 @@ use std::io;
 use std::io::{ErrorKind, Read, Write};
 use std::process::ExitCode;
 
+// What ended a play: a read that failed, or a write.
+#[derive(Debug, Drop)]
+pub enum Broken {
+    Reading(io::Error),
+    Writing(io::Error),
+}
+
 // What a shell tells of a program that SIGPIPE ended: 128 and the signal's number.
 const READER_GONE: u8 = 141;
 
@@ -40,14 +47,17 @@ fn put_some<W: Write>(writer: &mut W, bytes: &[u8]) -> io::Result<usize>
 }
 
 // Writes what stands in the output buffer.
-fn flush<W: Write>(writer: &mut W, out: &[u8], at: usize) -> io::Result<()>
+fn flush<W: Write>(writer: &mut W, out: &[u8], at: usize) -> Result<(), Broken>
     requires { at ≤ length out.now }
     ensures all { OnOk result (Appends (W.contents writer.old) (W.contents writer.new) (take at out.now)) }
     ensures part { (k : ℕ) × (k ≤ at) × Appends (W.contents writer.old) (W.contents writer.new) (take k out.now) }
 {
     let mut from = 0;
     while from < at {
-        from += put_some(writer, &out[from..at])?;
+        match put_some(writer, &out[from..at]) {
+            Ok(put) => from += put,
+            Err(e) => return Err(Broken::Writing(e)),
+        }
     }
     Ok(())
 }
@@ -62,7 +72,7 @@ fn send<W: Write>(
     fields: &mut [u16],
     colours: &mut [u8],
     play: &mut Play,
-) -> io::Result<usize>
+) -> Result<usize, Broken>
     requires between { Between line.old out.old fields.old colours.old play.old }
     requires from_in_bounds { from < length chunk.now }
     ensures next { IfOk result (λ next. (from < next) × (next ≤ length chunk.now)) }
@@ -88,7 +98,7 @@ fn drain<W: Write>(
     fields: &mut [u16],
     colours: &mut [u8],
     play: &mut Play,
-) -> io::Result<bool>
+) -> Result<bool, Broken>
     requires { Between line.old out.old fields.old colours.old play.old }
     ensures between { Between line.new out.new fields.new colours.new play.new }
     ensures more { IfOk result (λ more. more ≡ nat_lt play.new.count 4294967295) }
@@ -113,7 +123,7 @@ fn close_text<W: Write>(
     fields: &mut [u16],
     colours: &mut [u8],
     play: Play,
-) -> io::Result<()>
+) -> Result<(), Broken>
     requires { Between line.now out.old fields.old colours.old play }
     ensures written { OnOk result (Appends (W.contents writer.old) (W.contents writer.new)
         (total line.now out.old fields.old colours.old play [])) }
@@ -154,7 +164,7 @@ fn read_some<R: Read, W: Write>(
     fields: &mut [u16],
     colours: &mut [u8],
     play: &mut Play,
-) -> io::Result<bool>
+) -> Result<bool, Broken>
     requires { Between line.old out.old fields.old colours.old play.old }
     ensures between { Between line.new out.new fields.new colours.new play.new }
     ensures played { 0 < length input.old → IfOk result (λ more. MatchBool more
@@ -165,7 +175,10 @@ fn read_some<R: Read, W: Write>(
     ensures part { 0 < length input.old → OnErr result (FinishesInPart (R.remaining reader.old)
         (W.contents writer.old) (W.contents writer.new) (total line.old out.old fields.old colours.old play.old)) }
 {
-    let got = take_some(reader, input)?;
+    let got = match take_some(reader, input) {
+        Ok(got) => got,
+        Err(e) => return Err(Broken::Reading(e)),
+    };
     if got == 0 {
         close_text(writer, line, out, fields, colours, *play)?;
         return Ok(false);
@@ -182,7 +195,7 @@ fn play_all<R: Read, W: Write>(
     out: &mut [u8],
     fields: &mut [u16],
     colours: &mut [u8],
-) -> io::Result<()>
+) -> Result<(), Broken>
     requires line { 65 ≡ length line.old }
     requires out { 77 ≤ length out.old }
     requires store { (16384 ≡ length fields.old) × (4096 ≡ length colours.old) }
@@ -197,12 +210,12 @@ fn play_all<R: Read, W: Write>(
             return Ok(());
         }
     }
-    Err(io::Error::new(ErrorKind::TimedOut, "the input does not end"))
+    Err(Broken::Reading(io::Error::new(ErrorKind::TimedOut, "the input does not end")))
 }
 
 // Plays the text of standard input on the player's own store, and writes an output line for each line. Where the reader of the output goes
 // away, the player ends quietly, as any program does.
-pub fn play_input<R: Input + Print>(rt: &R) -> io::Result<ExitCode> {
+pub fn play_input<R: Input + Print>(rt: &R) -> Result<ExitCode, Broken> {
     let mut input = [0u8; 65536];
     let mut out = [0u8; 65536];
     let mut line = [0u8; 65];
@@ -219,7 +232,9 @@ pub fn play_input<R: Input + Print>(rt: &R) -> io::Result<ExitCode> {
     );
     match played {
         Ok(()) => Ok(ExitCode::SUCCESS),
-        Err(e) if e.kind() == ErrorKind::BrokenPipe => Ok(ExitCode::from(READER_GONE)),
-        Err(e) => Err(e),
+        Err(Broken::Writing(e)) if e.kind() == ErrorKind::BrokenPipe => Ok(ExitCode::from(
+            READER_GONE,
+        )),
+        Err(broken) => Err(broken),
     }
 }

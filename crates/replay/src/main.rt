@@ -1,9 +1,9 @@
 // Plays the text of standard input.
 #![tactic(auto)]
 
-use std::io;
+use playing::Broken;
 use std::process::ExitCode;
 
-fn main(rt: HostRuntime) -> io::Result<ExitCode> {
+fn main(rt: HostRuntime) -> Result<ExitCode, Broken> {
     playing::play_input(&rt)
 }
