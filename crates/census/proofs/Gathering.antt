@@ -4,7 +4,7 @@ use mathlib.Core.Path.{refl, sym, ap, ◌∙◌}
 use native.Mathlib.Omega.{arith}
 use native.Mathlib.Numerals.{add-one}
 use lib.ListN.{length-set, length-replicate}
-use lib.Seq.{take-suc, take-suc-set, set_out}
+use lib.Seq.{take-suc, take-suc-set}
 use borrow.Author.Tests.{ltb-true, ltb-false}
 use Rattle.machine.specs.Choice.{pick}
 use Rattle.machine.specs.Store.{fresh_row}
@@ -43,7 +43,3 @@ own-eight n = go (ltb n 8) refl
     go : (t : Bool) → ltb n 8 ≡ t → pick t n 8 ≤ 8
     go true e = let h = ltb-true n 8 e in omega arith
     go false e = omega arith
-
--- there is no row past the eighth
-pub row_out : (own : List Row) (i n : ℕ) (row : Row) → length own ≡ n → n ≤ i → own ≡ set own i row
-row_out own i n row e b = sym (set_out own i row (omega arith))

@@ -42,7 +42,7 @@ Floating st c = InUse st c × (Held st c → ⊥)
 
 -- The floating cells, computed: numbers are followed one after the other; one that names a cell still there is reached, so it is
 -- taken out of the colours, and its four fields are followed too. `k` bounds the numbers followed. What is left over floats
--- (CensusLaws: held-exact, floating-exact).
+-- (CensusLaws: held-exact, floating_exact).
 abbrev pub fields_of : List ℕ → ℕ → List ℕ
 fields_of fields c = field_of fields c 0 ∷ field_of fields c 1 ∷ field_of fields c 2 ∷ field_of fields c 3 ∷ []
 

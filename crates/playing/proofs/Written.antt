@@ -1,5 +1,5 @@
 -- Parts of a run, one after another.
-use Rattle.std.proofs.Common.{◌≡◌, ℕ, ◌≤◌, nat_lt, List, [], ◌++◌, take, drop, take-append-drop, refl, Bool, true, false, Option, None, Some, Result, Ok, Err, OnOk, OnErr, IfOk, sym, ap, ◌∙◌, append_assoc, subst}
+use Rattle.std.proofs.Common.{◌≡◌, ℕ, ◌≤◌, nat_lt, List, [], ◌++◌, take, drop, take-append-drop, Bool, true, false, Option, None, Some, Result, Ok, Err, OnOk, OnErr, IfOk, sym, ap, ◌∙◌, append_assoc, subst}
 use Rattle.std.proofs.lemmas.List.{take-take}
 use Rattle.std.proofs.lemmas.Bool.{ltb-false}
 use Rattle.std.specs.Bool.{MatchBool}
@@ -70,10 +70,6 @@ begins_more v w xs ys e (more, h) = (more, e ∙ ap (λ l. v ++ l) h ∙ sym (ap
 pub Written-InPart : (a b c : Option (List ℕ)) (f g : List ℕ → List ℕ) → Written a b f g → WrittenInPart b c g → WrittenInPart a c f
 Written-InPart a b c f g (v, av, ev) (w, aw, ew) =
     (v ++ w, Appends-trans a b c v w av aw, λ rest. begins_more v w (f rest) (g rest) (ev rest) (ew rest))
-
-pub nothing_in_part : (left a : Option (List ℕ)) (f : List ℕ → List ℕ) → FinishesInPart left a a f
-nothing_in_part None a f = tt
-nothing_in_part (Some xs) a f = ([], Appends-nil a, (f xs, refl))
 
 -- a chunk was read, and a part of what it gave was written
 pub chunk_in_part : (l m a b : Option (List ℕ)) (f : List ℕ → List ℕ) (bs : List ℕ) → Consumes l m bs → WrittenInPart a b (λ rest. f (bs ++ rest)) → FinishesInPart l a b f

@@ -1,7 +1,7 @@
 -- From the calls by value to the machine: what each public call concludes from its callees' promises.
-use Rattle.std.specs.Prelude.{◌≡◌, ℕ, ◌*◌, Bool, true, false, List, ◌++◌, length, get_or, take, drop, set}
+use Rattle.std.specs.Prelude.{◌≡◌, ℕ, ◌*◌, Bool, true, false, List, length, get_or, set}
 use mathlib.Core.Path.{refl, ◌∙◌, ap}
-use lib.Seq.{set-get_or, take_at, drop_at}
+use lib.Seq.{set-get_or}
 use borrow.Author.Tests.{eqb-true}
 use Rattle.machine.specs.Choice.{refuse}
 use Rattle.machine.specs.ChoiceLaws.{hold, refuse-map}
@@ -18,7 +18,6 @@ use Rattle.machine.specs.declared.WriterTurn.{WriterTurn}
 use Rattle.machine.specs.declared.CollectorTurn.{CollectorTurn}
 use Rattle.turn.specs.Lent.{writing, collecting, seen, begun, beginning, filled, Begun}
 use Rattle.turn.specs.declared.Started.{Started}
-use Rattle.turn.specs.declared.kept.Kept.{Kept}
 use Rattle.turn.proofs.Seeing.{turn-seen}
 
 meets : (p : Public) (st : Store) (a : Answers p) (after : Store) → outcome a after ≡ outcome_of p st → Meets p st a after
@@ -69,13 +68,3 @@ module _ (rec : Record) (desk : List Row) (fs cs : List ℕ) where
   pub start-meets : (n g m : ℕ) (t : Started) (desk' : List Row) (fs' cs' : List ℕ) → begun t fs' cs' ≡ beginning n g m rec (length desk) fs cs → desk' ≡ filled t.go desk → Meets (starting n g m) st t.answer (parts t.rec desk' fs' cs')
   unfolding outcome_of
   start-meets n g m t desk' fs' cs' e d = meets (starting n g m) st t.answer (parts t.rec desk' fs' cs') (rw d (ap filling e ∙ start-lent n g m))
-
--- ---- a call on kept rows
--- what is kept is this answer, this record and these rows
-abbrev pub Keeps : Answer → Record → List Row → Kept → Type 0
-Keeps r h zs k = (k.answer ≡ r) × (k.rec ≡ h) × (k.rows ≡ zs)
-
--- the first k rows are the desk: what holds of the desk zs that the call left holds of the first rows kept, and the others are the old ones
-pub kept_holds : (Holds : Answer → Record → List Row → Type 0) (k : ℕ) (rows : List Row) (r : Answer) (h : Record) (zs : List Row) (st : Kept) → length zs ≡ k → Holds r h zs → Keeps r h (zs ++ drop k rows) st
-    → Holds st.answer st.rec (take k st.rows) × (drop k st.rows ≡ drop k rows)
-kept_holds Holds k rows r h zs st e p is = (rw (is.0, is.1, is.2, take_at zs (drop k rows) k e) p, ap (drop k) is.2 ∙ drop_at zs (drop k rows) k e)
