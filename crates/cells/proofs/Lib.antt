@@ -1,4 +1,2 @@
-pub mod Choosing
-pub mod Testing
-pub mod Refusing
 pub mod Looping
+pub mod Testing

@@ -1,4 +1,6 @@
 // To gray a number.
+#![tactic(auto, using(std::proofs::lemmas::Bool::Decides::nat_tests), unfolding(machine::specs::Gray::grayed, machine::specs::Gray::gray_ok, machine::specs::Range::colour_ok))]
+
 ghost use Rattle.std.specs.Prelude.{◌≡◌};
 ghost use Rattle.machine.specs.Gray.{grayed, gray_ok};
 
@@ -6,10 +8,8 @@ pub fn gray(colours: &mut [u8], v: u16)
     ensures { colours.new ≡ grayed colours.old v }
 {
     let i = v as usize;
-    if i < colours.len() {
-        if colours[i] == 1 {
-            colours[i] = 2;
-        }
+    if i < colours.len() && colours[i] == 1 {
+        colours[i] = 2;
     }
 }
 
@@ -18,8 +18,5 @@ pub fn gray_ok(colours: &[u8], v: u16) -> bool
     ensures { result ≡ gray_ok colours.now v }
 {
     let i = v as usize;
-    if i < colours.len() {
-        return colours[i] <= 3;
-    }
-    true
+    colours.len() <= i || colours[i] <= 3
 }

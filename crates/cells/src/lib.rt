@@ -6,4 +6,5 @@ pub mod limits;
 pub mod range;
 pub mod stage;
 
+// An empty field or slot, in the lent memory a number.
 pub const NONE: u16 = 65535;

@@ -1,48 +1,24 @@
 // Refusal 1: the numbers of the store and the lent lengths.
+#![tactic(auto, using(std::proofs::lemmas::Bool::Decides::nat_tests), unfolding(machine::specs::Choice::every, machine::specs::Limits::limits_ok, machine::specs::Limits::lengths_ok, machine::specs::Limits::sizes_ok))]
+
 ghost use Rattle.std.specs.Prelude.{◌≡◌};
 ghost use Rattle.machine.specs.Limits.{limits_ok, lengths_ok, sizes_ok};
 
+// Compared one by one: `contains` of a range slows every turn.
 pub fn limits_ok(n: u32, g: u32, m: u32) -> bool
     ensures { result ≡ limits_ok n g m }
 {
-    if n < 1 {
-        return false;
-    }
-    if 4096 < n {
-        return false;
-    }
-    if g < 1 {
-        return false;
-    }
-    if 16 < g {
-        return false;
-    }
-    if n < g {
-        return false;
-    }
-    if m < 1 {
-        return false;
-    }
-    m <= 8
+    1 <= n && n <= 4096 && 1 <= g && g <= 16 && g <= n && 1 <= m && m <= 8
 }
 
 pub fn lengths_ok(n: u32, m: u32, rows: usize, words: usize, bytes: usize) -> bool
     ensures { result ≡ lengths_ok n m rows words bytes }
 {
-    if words != (n as usize) * 4 {
-        return false;
-    }
-    if bytes != (n as usize) {
-        return false;
-    }
-    rows == (m as usize)
+    words == n as usize * 4 && bytes == n as usize && rows == m as usize
 }
 
 pub fn sizes_ok(n: u32, g: u32, m: u32, rows: usize, words: usize, bytes: usize) -> bool
     ensures { result ≡ sizes_ok n g m rows words bytes }
 {
-    if !limits_ok(n, g, m) {
-        return false;
-    }
-    lengths_ok(n, m, rows, words, bytes)
+    limits_ok(n, g, m) && lengths_ok(n, m, rows, words, bytes)
 }

@@ -1,19 +1,16 @@
--- Counting: the marks, the colours, and the six counts together.
-use Rattle.std.specs.Prelude.{◌≡◌, ℕ, zero, suc, ◌+◌, ◌-◌, ◌<◌, ◌≤◌, Bool, true, false, eqb, ◌≢◌, List, [], ◌∷◌, length, get_or, drop, replicate}
-use mathlib.Core.Path.{refl, sym, ◌∙◌}
+-- Counting: the marks, and the colours.
+use Rattle.std.specs.Prelude.{◌≡◌, ℕ, zero, suc, ◌+◌, ◌<◌, ◌≤◌, Bool, true, false, eqb, ◌≢◌, List, [], ◌∷◌, length, get_or, take, replicate}
+use mathlib.Core.Path.{refl, sym, ap, ◌∙◌}
 use native.Mathlib.Omega.{arith}
+use native.Mathlib.Numerals.{add-one}
 use native.Mathlib.Decide.{ℕ_discrete}
 use borrow.Author.Tests.{eq-eqb, ne_eqb}
-use lib.ListN.{length-replicate, drop_of_length-le}
+use mir.Val.{bool_byte}
+use Rattle.std.proofs.lemmas.List.{length-take}
 use Rattle.machine.specs.Choice.{pick}
 use Rattle.machine.specs.Parts.{colour_of}
-use Rattle.machine.specs.Store.{Store}
-use Rattle.machine.specs.Census.{tally, in_use, unreached, counts}
-use Rattle.machine.specs.declared.Counts.{Counts}
-use Rattle.cells.proofs.Looping.{drop-step}
-use Rattle.census.specs.declared.counts.Shades.{Shades}
-use Rattle.census.specs.Walk.{On, unmarked, Clear}
-use Rattle.census.specs.Counting.{one, one_more, shades, Tallied, Few}
+use Rattle.machine.specs.Census.{tally, in_use}
+use Rattle.census.specs.Room.{unmarked}
 
 -- ---- marks: if the marked cells are those in use that are not left over, they are as many
 none_left : (r : List ℕ) → ((c : ℕ) → colour_of r c ≡ 0) → in_use r ≡ 0
@@ -38,7 +35,7 @@ unfolding tail
 tail_at [] c = refl
 tail_at (x ∷ xs) c = refl
 
-pub marks-count : (l r m : List ℕ) → length l ≤ length m → ((c : ℕ) → On m c → (colour_of l c ≢ 0) × (colour_of r c ≡ 0)) → ((c : ℕ) → colour_of l c ≢ 0 → colour_of r c ≡ 0 → On m c) → ((c : ℕ) → colour_of r c ≢ 0 → colour_of l c ≢ 0)
+pub marks-count : (l r m : List ℕ) → length l ≤ length m → ((c : ℕ) → get_or m c 0 ≡ 1 → (colour_of l c ≢ 0) × (colour_of r c ≡ 0)) → ((c : ℕ) → colour_of l c ≢ 0 → colour_of r c ≡ 0 → get_or m c 0 ≡ 1) → ((c : ℕ) → colour_of r c ≢ 0 → colour_of l c ≢ 0)
     → in_use r + length l ≡ in_use l + unmarked m (length l)
 unfolding in_use unmarked
 marks-count [] r m b f g h = let e = none_left r (λ c. zero-at c (ℕ_discrete (colour_of r c) 0)) in omega arith
@@ -62,16 +59,10 @@ marks-count (x ∷ xs) r (y ∷ m) b f g h =
     go (no e) (no q) z = rw (ne_eqb x 0 e, ne_eqb (head r) 0 q, ne_eqb y 1 (λ o. q (f 0 o).1), in_use, unmarked) (omega arith)
 
 -- an array of zeros marks nothing
-zeros : (n c : ℕ) → ◌≡◌ {A = ℕ} (get_or (replicate n 0) c 0) 0
+pub zeros : (n c : ℕ) → ◌≡◌ {A = ℕ} (get_or (replicate n 0) c 0) 0
 zeros zero c = refl
 zeros (suc n) zero = refl
 zeros (suc n) (suc c) = zeros n c
-
-none-on : (n c : ℕ) → On (replicate n 0) c → ⊥
-none-on n c p = let e = zeros n c in omega arith
-
-pub clear-zeros : Clear (replicate 4096 0) (replicate 4096 0)
-clear-zeros = record { marks = length-replicate {A = ℕ} 4096 0; stack = length-replicate {A = ℕ} 4096 0; clear = none-on 4096 }
 
 -- ---- colours
 tally-le : (b : ℕ) (l : List ℕ) → tally b l ≤ length l
@@ -83,80 +74,43 @@ tally-le b (c ∷ cs) = go (eqb c b) (tally-le b cs)
     go true h = omega arith
     go false h = omega arith
 
-tally-step : (b : ℕ) (l : List ℕ) (i : ℕ) → i < length l → tally b (drop i l) ≡ one (get_or l i 0) b + tally b (drop (i + 1) l)
-unfolding tally one
-tally-step b l i h = rw (drop-step l i h) (go (eqb (get_or l i 0) b))
+-- one cell more
+tally-suc : (b : ℕ) (l : List ℕ) (i : ℕ) → i < length l → tally b (take (suc i) l) ≡ tally b (take i l) + bool_byte (eqb (get_or l i 0) b)
+unfolding tally
+tally-suc b [] i h = absurd (omega arith)
+tally-suc b (c ∷ cs) zero h = go (eqb c b)
   where
-    go : (t : Bool) → pick t (suc (tally b (drop (i + 1) l))) (tally b (drop (i + 1) l)) ≡ pick t 1 0 + tally b (drop (i + 1) l)
-    go true = omega arith
-    go false = omega arith
-
-pub one-le : (b k : ℕ) → one b k ≤ 1
-unfolding one
-one-le b k = go (eqb b k)
+    go : (t : Bool) → pick t 1 0 ≡ 0 + bool_byte t
+    go true = refl
+    go false = refl
+tally-suc b (c ∷ cs) (suc i) h = go (eqb c b) (tally-suc b cs i (omega arith))
   where
-    go : (t : Bool) → pick t 1 0 ≤ 1
-    go true = omega arith
-    go false = omega arith
+    go : (t : Bool) → tally b (take (suc i) cs) ≡ tally b (take i cs) + bool_byte (eqb (get_or cs i 0) b) → pick t (suc (tally b (take (suc i) cs))) (tally b (take (suc i) cs)) ≡ pick t (suc (tally b (take i cs))) (tally b (take i cs)) + bool_byte (eqb (get_or cs i 0) b)
+    go true e = omega arith
+    go false e = omega arith
 
-pub tally-start : (colours : List ℕ) → Tallied colours 0 (shades 0 0 0 0)
-tally-start colours = record { free = omega arith; white = omega arith; gray = omega arith; black = omega arith }
+pub tally_none : (b : ℕ) → tally b [] ≡ 0
+unfolding tally
+tally_none b = refl
 
-pub tally-few : (colours : List ℕ) (i : ℕ) (t : Shades) → Tallied colours i t → length colours ≤ 4096 → Few t
-tally-few colours i t k b =
-    record {
-      free = omega (arith, k.free, tally-le 0 colours);
-      white = omega (arith, k.white, tally-le 1 colours);
-      gray = omega (arith, k.gray, tally-le 2 colours);
-      black = omega (arith, k.black, tally-le 3 colours);
-    }
+module _ (b : ℕ) (l : List ℕ) (i k : ℕ) (e : k ≡ tally b (take i l)) (h : i < length l) where
+  pub tally_more : k + bool_byte (eqb (get_or l i 0) b) ≡ tally b (take (i + 1) l)
+  tally_more = rw (add-one i) (e' ∙ sym (tally-suc b l i h))
+    where
+      e' : k + bool_byte (eqb (get_or l i 0) b) ≡ tally b (take i l) + bool_byte (eqb (get_or l i 0) b)
+      e' = ap (λ (n : ℕ). n + bool_byte (eqb (get_or l i 0) b)) e
 
-pub tally-more : (colours : List ℕ) (i : ℕ) (t t' : Shades) → Tallied colours i t → i < length colours → t' ≡ one_more t (get_or colours i 0) → Tallied colours (i + 1) t'
-unfolding one_more
-tally-more colours i t t' k b e =
-    rw e
-    (record {
-      free = omega (arith, k.free, tally-step 0 colours i b);
-      white = omega (arith, k.white, tally-step 1 colours i b);
-      gray = omega (arith, k.gray, tally-step 2 colours i b);
-      black = omega (arith, k.black, tally-step 3 colours i b);
-    })
-
-pub tally-end : (colours : List ℕ) (n k : ℕ) (t : Shades) → Tallied colours n t → n ≤ k → k ≤ n → Tallied colours k t
-tally-end colours n k t h a b = let e : k ≡ n = omega arith in rw e h
+  pub tally_fits : length l ≤ 4096 → k + bool_byte (eqb (get_or l i 0) b) < 65536
+  tally_fits m = omega (arith, tally_more, tally-le b (take (i + 1) l), length-take (i + 1) l)
 
 -- free cells and cells in use make all
-free-used : (l : List ℕ) → tally 0 l + in_use l ≡ length l
+pub free_used : (l : List ℕ) → tally 0 l + in_use l ≡ length l
 unfolding tally in_use
-free-used [] = refl
-free-used (c ∷ cs) = go (eqb c 0) (free-used cs)
+free_used [] = refl
+free_used (c ∷ cs) = go (eqb c 0) (free_used cs)
   where
     go : (t : Bool) → tally 0 cs + in_use cs ≡ length cs → pick t (suc (tally 0 cs)) (tally 0 cs) + pick t (in_use cs) (suc (in_use cs)) ≡ suc (length cs)
     go true h = omega arith
     go false h = omega arith
 
-all-counted : (b : ℕ) (colours : List ℕ) (k : ℕ) → k + tally b (drop (length colours) colours) ≡ tally b colours → k ≡ tally b colours
-unfolding tally
-all-counted b colours k e = (let z : k + tally b [] ≡ tally b colours = rw (drop_of_length-le colours {i = length colours} (omega arith)) at e in omega arith)
-
--- ---- the counts of the store st, whose held cells were counted
-module _ (st : Store) (n h : ℕ) (t : Shades) (sized : n ≡ length st.colours) (walked : h + in_use (unreached st) ≡ in_use st.colours) (told : Tallied st.colours (length st.colours) t) where
-  free_all : t.free ≡ tally 0 st.colours
-  free_all = all-counted 0 st.colours t.free told.free
-
-  pub free-le : t.free ≤ n
-  free-le = omega (arith, free_all, tally-le 0 st.colours)
-
-  pub held-le : h ≤ n - t.free
-  held-le = omega (arith, free_all, free-used st.colours)
-
-  pub counts_all : ◌≡◌ {A = Counts} (record { free = t.free; white = t.white; gray = t.gray; black = t.black; held = h; floating = n - t.free - h }) (counts st)
-  unfolding counts
-  counts_all =
-      let a = free_all in
-      let b = all-counted 1 st.colours t.white told.white in
-      let c = all-counted 2 st.colours t.gray told.gray in
-      let d = all-counted 3 st.colours t.black told.black in
-      let e : h ≡ in_use st.colours - in_use (unreached st) = omega arith in
-      let f : n - t.free - h ≡ in_use (unreached st) = omega (arith, free-used st.colours) in
-      λ j. record { free = a j; white = b j; gray = c j; black = d j; held = e j; floating = f j }
+pub ruleset counting = (tally_none, tally_more, tally_fits, free_used)

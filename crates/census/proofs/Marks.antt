@@ -1,317 +1,320 @@
 -- What the walk keeps true, and what it ends in.
-use Rattle.std.specs.Prelude.{◌≡◌, ℕ, zero, suc, ◌+◌, ◌-◌, ◌*◌, ◌<◌, ◌≤◌, ◌⊎◌, List, [], ◌∷◌, length, get_or, take, set}
-use mathlib.Core.Path.{refl, sym, ap, ◌∙◌}
+use Rattle.std.specs.Prelude.{◌≡◌, ℕ, zero, suc, ◌+◌, ◌*◌, ◌<◌, ◌≤◌, ◌⊎◌, List, [], ◌∷◌, ◌++◌, length, get_or, set, replicate}
+use Rattle.std.specs.Borrow.{Bor}
+use Rattle.std.specs.List.{range_with_len}
+use mathlib.Core.Path.{refl, ap, ◌∙◌}
 use mathlib.Core.Logic.{inl, inr}
 use native.Mathlib.Omega.{arith}
 use native.Mathlib.Decide.{ℕ_discrete}
 use borrow.Author.Tests.{ne_eqb}
+use lib.ListN.{length-append, length-replicate}
 use lib.Seq.{get_or-set_same, get_or-set_other}
 use Rattle.machine.specs.Parts.{field_of}
 use Rattle.machine.specs.Store.{Store, parts}
-use Rattle.machine.specs.Census.{In, pages, slots, roots, InUse, Held, root, field, in_use, unreached}
+use Rattle.machine.specs.Census.{In, pages, slots, roots, fields_of, InUse, Held, root, field, in_use, unreached}
 use Rattle.machine.proofs.CensusLaws.{held-exact, floating_exact, in_left, in_right, in_either}
 use Rattle.machine.specs.declared.Record.{Record}
 use Rattle.machine.specs.declared.Row.{Row}
 use Rattle.cells.specs.Sized.{Sized}
-use Rattle.census.specs.Walk.{Used, On, unmarked, Room, Clear, Pushed, stays, new, Pushes, empty, more, Pushing, firsts, slots_from}
-use Rattle.census.proofs.Walks.{used-below, unmarked-set, room-new, pushed_room}
-use Rattle.census.proofs.Counting.{marks-count}
+use Rattle.arrayvec.specs.ArrayVec.{ArrayVec}
+use Rattle.census.specs.declared.reach.Walk.{Walk}
+use Rattle.census.specs.Room.{unmarked, Room}
+use Rattle.census.specs.Walk.{Used, On, missing, waiting, Fresh, Pushed, stays, new, Pushing}
+use Rattle.census.proofs.Walks.{used-below, fewer}
+use Rattle.census.proofs.Counting.{marks-count, zeros}
 
 -- ---- one push: nothing is unmarked, v is marked, and marks missing and places taken stay the same together
-on-set : (m : List ℕ) (x c : ℕ) → x < length m → On m c → Dec (c ≡ x) → On (set m x 1) c
+on-set : (m : List ℕ) (x c : ℕ) → x < length m → get_or m c 0 ≡ 1 → Dec (c ≡ x) → get_or (set m x 1) c 0 ≡ 1
 on-set m x c b p (yes e) = rw (e, get_or-set_same m x 1 0 b)
 on-set m x c b p (no n) = rw (get_or-set_other m x c 1 0 n) p
 
-set_on : (m : List ℕ) (x c : ℕ) → On (set m x 1) c → (c ≡ x → ⊥) → On m c
+set_on : (m : List ℕ) (x c : ℕ) → get_or (set m x 1) c 0 ≡ 1 → (c ≡ x → ⊥) → get_or m c 0 ≡ 1
 set_on m x c p n = rw (get_or-set_other m x c 1 0 n) at p
 
-pushed_keeps : {colours m s : List ℕ} {t x : ℕ} {m' s' : List ℕ} {t' : ℕ} → Room colours m s t → Pushed colours m s t x m' s' t' → (c : ℕ) → On m c → On m' c
-pushed_keeps r (stays h) c p = p
-pushed_keeps {colours} {m} {x = x} r (new u q) c p =
-    let b = r.cells in
-    let l = r.marks in
-    let i = used-below colours x u in
-    on-set m x c (omega arith) p (ℕ_discrete c x)
+in-marks : (w : Walk) (x : ℕ) → Used w x → x < length w.marks
+in-marks w x u = omega (arith, used-below w.colours.now x u, w.room.cells, w.room.marks)
 
-pushed_on : {colours m s : List ℕ} {t x : ℕ} {m' s' : List ℕ} {t' : ℕ} → Room colours m s t → Pushed colours m s t x m' s' t' → Used colours x → On m' x
-pushed_on r (stays h) k = h k
-pushed_on {colours} {m} {x = x} r (new u q) k =
-    let b = r.cells in
-    let l = r.marks in
-    let i = used-below colours x u in
-    get_or-set_same m x 1 0 (omega arith)
+pushed_keeps : {w : Walk} {x : ℕ} {w' : Walk} → Pushed w x w' → (c : ℕ) → On w c → On w' c
+pushed_keeps (stays h) c p = p
+pushed_keeps {w} {x} (new n) c p = rw n.marks (on-set w.marks x c (in-marks w x n.used) p (ℕ_discrete c x))
 
-pushed_sum : {colours m s : List ℕ} {t x : ℕ} {m' s' : List ℕ} {t' : ℕ} → Room colours m s t → Pushed colours m s t x m' s' t' → unmarked m' (length colours) + t' ≡ unmarked m (length colours) + t
-pushed_sum r (stays h) = refl
-pushed_sum {colours} {m} {x = x} r (new u q) =
-    let b = r.cells in
-    let l = r.marks in
-    let i = used-below colours x u in
-    let e = unmarked-set m x (length colours) (omega arith) q i in
-    omega arith
+pushed_on : {w : Walk} {x : ℕ} {w' : Walk} → Pushed w x w' → Used w x → On w' x
+pushed_on (stays h) k = h k
+pushed_on {w} {x} (new n) k = rw n.marks (get_or-set_same w.marks x 1 0 (in-marks w x n.used))
+
+pushed_sum : {w : Walk} {x : ℕ} {w' : Walk} → Pushed w x w' → missing w' + waiting w' ≡ missing w + waiting w
+pushed_sum (stays h) = refl
+pushed_sum {w} {x} (new n) = rw (n.marks, n.colours, n.stack) (omega (arith, fewer w x (used-below w.colours.now x n.used) n.fresh, length-append w.stack.items (x ∷ [])))
+
+-- the colours stay as they are
+pushed_same : {w : Walk} {x : ℕ} {w' : Walk} → Pushed w x w' → w'.colours ≡ w.colours
+pushed_same (stays h) = refl
+pushed_same (new n) = n.colours
 
 -- ---- several
-pushes_room : {colours m s : List ℕ} {t : ℕ} {vs m' s' : List ℕ} {t' : ℕ} → Room colours m s t → Pushes colours m s t vs m' s' t' → Room colours m' s' t'
-pushes_room r empty = r
-pushes_room r (more k p) = pushed_room (pushes_room r k) p
+pushes_keeps : (vs : List ℕ) (w w' : Walk) → Pushing w vs w' → (c : ℕ) → On w c → On w' c
+pushes_keeps [] w w' k c o = rw k at o
+pushes_keeps (v ∷ vs) w w' k c o = pushes_keeps vs k.0 w' k.2 c (pushed_keeps k.1 c o)
 
-pushes_keeps : {colours m s : List ℕ} {t : ℕ} {vs m' s' : List ℕ} {t' : ℕ} → Room colours m s t → Pushes colours m s t vs m' s' t' → (c : ℕ) → On m c → On m' c
-pushes_keeps r empty c o = o
-pushes_keeps r (more k p) c o = pushed_keeps (pushes_room r k) p c (pushes_keeps r k c o)
+pushes_sum : (vs : List ℕ) (w w' : Walk) → Pushing w vs w' → missing w' + waiting w' ≡ missing w + waiting w
+pushes_sum [] w w' k = rw k refl
+pushes_sum (v ∷ vs) w w' k = pushes_sum vs k.0 w' k.2 ∙ pushed_sum k.1
 
-pushes_sum : {colours m s : List ℕ} {t : ℕ} {vs m' s' : List ℕ} {t' : ℕ} → Room colours m s t → Pushes colours m s t vs m' s' t' → unmarked m' (length colours) + t' ≡ unmarked m (length colours) + t
-pushes_sum r empty = refl
-pushes_sum r (more k p) = pushed_sum (pushes_room r k) p ∙ pushes_sum r k
-
-pushes_on : {colours m s : List ℕ} {t : ℕ} {vs m' s' : List ℕ} {t' : ℕ} → Room colours m s t → Pushes colours m s t vs m' s' t' → (c : ℕ) → In c vs → Used colours c → On m' c
-pushes_on r empty c i u = absurd i
-pushes_on r (more k p) c (inl e) u = rw e (pushed_on (pushes_room r k) p (rw e at u))
-pushes_on r (more k p) c (inr i) u = pushed_keeps (pushes_room r k) p c (pushes_on r k c i u)
+pushes_on : (vs : List ℕ) (w w' : Walk) → Pushing w vs w' → (c : ℕ) → In c vs → Used w c → On w' c
+pushes_on [] w w' k c i u = absurd i
+pushes_on (v ∷ vs) w w' k c (inl e) u = pushes_keeps vs k.0 w' k.2 c (rw e (pushed_on k.1 (rw e at u)))
+pushes_on (v ∷ vs) w w' k c (inr i) u = pushes_on vs k.0 w' k.2 c i (rw (pushed_same k.1) u)
 
 -- ---- membership
-firsts_at : (x : ℕ → ℕ) (n c : ℕ) → In c (firsts x n) → (i : ℕ) × (i < n) × (c ≡ x i)
-unfolding firsts
-firsts_at x zero c i = absurd i
-firsts_at x (suc n) c (inl e) = (n, omega arith, e)
-firsts_at x (suc n) c (inr i) = let k = firsts_at x n c i in let b = k.1 in (k.0, omega arith, k.2)
+named_by : (fields : List ℕ) (x c : ℕ) → In c (fields_of fields x) → (f : ℕ) × (f < 4) × (c ≡ field_of fields x f)
+named_by fields x c (inl e) = (0, omega arith, e)
+named_by fields x c (inr (inl e)) = (1, omega arith, e)
+named_by fields x c (inr (inr (inl e))) = (2, omega arith, e)
+named_by fields x c (inr (inr (inr (inl e)))) = (3, omega arith, e)
+named_by fields x c (inr (inr (inr (inr h)))) = absurd h
 
-at-firsts : (x : ℕ → ℕ) (n i : ℕ) → i < n → In (x i) (firsts x n)
-unfolding firsts
-at-firsts x zero i b = absurd (omega arith)
-at-firsts x (suc n) i b = go (λ l. at-firsts x n i l) (ℕ_discrete i n)
+names : (fields : List ℕ) (x f : ℕ) → f < 4 → In (field_of fields x f) (fields_of fields x)
+names fields x zero b = inl refl
+names fields x (suc zero) b = inr (inl refl)
+names fields x (suc (suc zero)) b = inr (inr (inl refl))
+names fields x (suc (suc (suc zero))) b = inr (inr (inr (inl refl)))
+names fields x (suc (suc (suc (suc f)))) b = absurd (omega arith)
+
+-- the pages in the order of their numbers are the pages
+from_range : (a n c : ℕ) → In c (range_with_len a n) → c < a + n
+from_range a zero c i = absurd i
+from_range a (suc n) c (inl e) = omega arith
+from_range a (suc n) c (inr i) = let h = from_range (a + 1) n c i in omega arith
+
+in_range : (a n c : ℕ) → a ≤ c → c < a + n → In c (range_with_len a n)
+in_range a zero c l h = absurd (omega arith)
+in_range a (suc n) c l h = go (ℕ_discrete c a) (λ k. in_range (a + 1) n c k (omega arith))
   where
-    go : (i < n → In (x i) (firsts x n)) → Dec (i ≡ n) → In (x i) (firsts x (suc n))
-    go k (yes e) = inl (ap x e)
-    go k (no d) = inr (k (omega arith))
+    go : Dec (c ≡ a) → (a + 1 ≤ c → In c (range_with_len (a + 1) n)) → In c (range_with_len a (suc n))
+    go (yes e) k = inl e
+    go (no d) k = inr (k (omega arith))
 
--- no cell is being opened
-abbrev nobody : ℕ
-nobody = 65535
+page_of : (g c : ℕ) → c < g → In c (pages g)
+unfolding pages
+page_of zero c h = absurd (omega arith)
+page_of (suc g) c h = go (ℕ_discrete c g) (page_of g c)
+  where
+    go : Dec (c ≡ g) → (c < g → In c (pages g)) → In c (pages (suc g))
+    go (yes e) k = inl e
+    go (no d) k = inr (k (omega arith))
 
-unmarked-none : (m : List ℕ) (n : ℕ) → ((c : ℕ) → On m c → ⊥) → unmarked m n ≡ n
+page-below : (g c : ℕ) → In c (pages g) → c < g
+unfolding pages
+page-below zero c i = absurd i
+page-below (suc g) c (inl e) = omega arith
+page-below (suc g) c (inr i) = let h = page-below g c i in omega arith
+
+-- ---- the walk begins: nothing is marked
+none-on : (c : ℕ) → ◌≡◌ {A = ℕ} (get_or (replicate 4096 0) c 0) 1 → ⊥
+none-on c p = let e = zeros 4096 c in omega arith
+
+unmarked-none : (m : List ℕ) (n : ℕ) → ((c : ℕ) → get_or m c 0 ≡ 1 → ⊥) → unmarked m n ≡ n
 unfolding unmarked
 unmarked-none m zero h = refl
 unmarked-none [] (suc n) h = ap suc (unmarked-none [] n (λ c. h c))
 unmarked-none (y ∷ m) (suc n) h = rw (ne_eqb y 1 (h 0), unmarked-none m n (λ c. h (suc c)))
 
-pub clear_room : (n : ℕ) (fields colours m s : List ℕ) → Sized n fields colours → Clear m s → Room colours m s 0
-clear_room n fields colours m s z r =
-    let a = z.bytes in
-    let b = z.small in
-    record { cells = omega arith; marks = r.marks; stack = r.stack; places = (let e = unmarked-none m (length colours) r.clear in omega arith) }
+pub fresh_room : (colours stack : List ℕ) → length colours ≤ 4096 → stack ≡ [] → Room colours (replicate 4096 0) stack
+fresh_room colours stack b e = record {
+  cells = b;
+  marks = length-replicate {A = ℕ} 4096 0;
+  places = omega (arith, unmarked-none (replicate 4096 0) (length colours) none-on, ap length e);
+}
+
+-- no cell is being opened
+abbrev nobody : ℕ
+nobody = 65535
 
 -- ---- the walk in the store st
 module _ (st : Store) where
-  -- c is on the stack
-  abbrev Stacked : List ℕ → ℕ → ℕ → Type 0
-  Stacked s t c = (k : ℕ) × (k < t) × (get_or s k 0 ≡ c)
-
   -- what c's fields name is marked
-  abbrev Spread : List ℕ → ℕ → Type 0
-  Spread m c = (f : ℕ) → f < 4 → InUse st (field_of st.fields c f) → On m (field_of st.fields c f)
+  abbrev Spread : Walk → ℕ → Type 0
+  Spread w c = (f : ℕ) → f < 4 → InUse st (field_of st.fields c f) → On w (field_of st.fields c f)
 
-  abbrev Where : List ℕ → List ℕ → ℕ → ℕ → ℕ → Type 0
-  Where m s t hole c = Stacked s t c ⊎ (Spread m c ⊎ (c ≡ hole))
+  abbrev Where : Walk → ℕ → ℕ → Type 0
+  Where w hole c = In c w.stack.items ⊎ (Spread w c ⊎ (c ≡ hole))
 
   -- marked cells are held, and each is on the stack, or spread, or the one that is being opened
-  record Walk (m s : List ℕ) (t hole : ℕ) : Type 0 where
-    sound : (c : ℕ) → On m c → Held st c
-    on : (k : ℕ) → k < t → On m (get_or s k 0)
-    done : (c : ℕ) → On m c → Where m s t hole c
+  record Midway (w : Walk) (hole : ℕ) : Type 0 where
+    cells : w.colours.now ≡ st.colours
+    sound : (c : ℕ) → On w c → Held st c
+    on : (c : ℕ) → In c w.stack.items → On w c
+    done : (c : ℕ) → On w c → Where w hole c
 
-  pushed_walk : {m s : List ℕ} {t x hole : ℕ} {m' s' : List ℕ} {t' : ℕ} → Room st.colours m s t → Walk m s t hole → (InUse st x → Held st x) → Pushed st.colours m s t x m' s' t' → Walk m' s' t' hole
-  pushed_walk r w h (stays k) = w
-  pushed_walk {m} {s} {t} {x} {hole} r w h (new u q) =
-      record { sound = λ c p. held c p (ℕ_discrete c x); on = λ k p. top k p (ℕ_discrete k t); done = λ c p. place c p (ℕ_discrete c x) }
+  pushed_midway : {w : Walk} {x hole : ℕ} {w' : Walk} → Midway w hole → (InUse st x → Held st x) → Pushed w x w' → Midway w' hole
+  pushed_midway m h (stays k) = m
+  pushed_midway {w} {x} {hole} {w'} m h (new n) =
+      record { cells = rw n.colours m.cells; sound = λ c p. held c p (ℕ_discrete c x); on = λ c i. on c (in_either c w.stack.items (x ∷ []) (rw n.stack at i)); done = λ c p. place c p (ℕ_discrete c x) }
     where
-      below : x < length st.colours
-      below = used-below st.colours x u
+      before : (c : ℕ) → On w' c → (c ≡ x → ⊥) → On w c
+      before c p d = set_on w.marks x c (rw n.marks at p) d
 
-      in_marks : x < length m
-      in_marks = let b = r.cells in let l = r.marks in omega (arith, below)
+      held : (c : ℕ) → On w' c → Dec (c ≡ x) → Held st c
+      held c p (yes e) = rw e (h (rw m.cells at n.used))
+      held c p (no d) = m.sound c (before c p d)
 
-      in_stack : t < length s
-      in_stack = let b = r.cells in let l = r.stack in omega (arith, room-new st.colours m s t x r below q)
+      on : (c : ℕ) → In c w.stack.items ⊎ In c (x ∷ []) → On w' c
+      on c (inl i) = pushed_keeps (new n) c (m.on c i)
+      on c (inr (inl e)) = rw e (pushed_on (new n) n.used)
+      on c (inr (inr i)) = absurd i
 
-      held : (c : ℕ) → On (set m x 1) c → Dec (c ≡ x) → Held st c
-      held c p (yes e) = rw e (h u)
-      held c p (no n) = w.sound c (set_on m x c p n)
-
-      top : (k : ℕ) → k < t + 1 → Dec (k ≡ t) → On (set m x 1) (get_or (set s t x) k 0)
-      top k p (yes e) = rw (e, get_or-set_same s t x 0 in_stack, get_or-set_same m x 1 0 in_marks)
-      top k p (no n) = rw (get_or-set_other s t k x 0 n) (on-set m x (get_or s k 0) in_marks (w.on k (omega arith)) (ℕ_discrete (get_or s k 0) x))
-
-      old : (c : ℕ) → Where m s t hole c → Where (set m x 1) (set s t x) (t + 1) hole c
-      old c (inl k) = let i = k.1 in inl (k.0, omega arith, get_or-set_other s t k.0 x 0 (λ e. omega arith) ∙ k.2)
-      old c (inr (inl k)) = inr (inl (λ f i v. on-set m x (field_of st.fields c f) in_marks (k f i v) (ℕ_discrete (field_of st.fields c f) x)))
+      old : (c : ℕ) → Where w hole c → Where w' hole c
+      old c (inl i) = inl (rw n.stack (in_left c w.stack.items (x ∷ []) i))
+      old c (inr (inl k)) = inr (inl (λ f i v. pushed_keeps (new n) (field_of st.fields c f) (k f i v)))
       old c (inr (inr k)) = inr (inr k)
 
-      place : (c : ℕ) → On (set m x 1) c → Dec (c ≡ x) → Where (set m x 1) (set s t x) (t + 1) hole c
-      place c p (yes e) = inl (t, omega arith, get_or-set_same s t x 0 in_stack ∙ sym e)
-      place c p (no n) = old c (w.done c (set_on m x c p n))
+      place : (c : ℕ) → On w' c → Dec (c ≡ x) → Where w' hole c
+      place c p (yes e) = inl (rw n.stack (in_right c w.stack.items (x ∷ []) (inl e)))
+      place c p (no d) = old c (m.done c (before c p d))
 
-  pushes_walk : {m s : List ℕ} {t hole : ℕ} {vs m' s' : List ℕ} {t' : ℕ} → Room st.colours m s t → Walk m s t hole → ((c : ℕ) → In c vs → InUse st c → Held st c) → Pushes st.colours m s t vs m' s' t' → Walk m' s' t' hole
-  pushes_walk r w h empty = w
-  pushes_walk r w h (more {v = v} k p) = pushed_walk (pushes_room r k) (pushes_walk r w (λ c i. h c (inr i)) k) (h v (inl refl)) p
+  pushes_midway : (vs : List ℕ) (w w' : Walk) (hole : ℕ) → Midway w hole → ((c : ℕ) → In c vs → InUse st c → Held st c) → Pushing w vs w' → Midway w' hole
+  pushes_midway [] w w' hole m h k = rw k at m
+  pushes_midway (v ∷ vs) w w' hole m h k = pushes_midway vs k.0 w' hole (pushed_midway m (h v (inl refl)) k.1) (λ c i. h c (inr i)) k.2
 
   held_below : (c : ℕ) → Held st c → c < length st.colours
   held_below c h = used-below st.colours c ((held-exact st c).0 h).0
 
   -- ---- the loop's invariant: o cells were opened
-  pub record Working (m s : List ℕ) (t o : ℕ) : Type 0 where
-    walk : Walk m s t nobody
-    pub room : Room st.colours m s t
+  pub record Working (w : Walk) (o : ℕ) : Type 0 where
+    midway : Midway w nobody
     four : length st.colours * 4 ≡ length st.fields
-    begun : (c : ℕ) → In c (roots st) → InUse st c → On m c
-    count : o + (unmarked m (length st.colours) + t) ≡ length st.colours
+    begun : (c : ℕ) → In c (roots st) → InUse st c → On w c
+    count : o + (missing w + waiting w) ≡ length w.colours.now
 
-  -- the newest is taken off the stack
-  walk_pop : (m s : List ℕ) (t : ℕ) → length st.colours ≤ 4096 → 0 < t → Walk m s t nobody → Walk m s (t - 1) (get_or s (t - 1) 0)
-  walk_pop m s t l b w = record { sound = w.sound; on = λ k p. w.on k (omega arith); done = λ c p. place c (held_below c (w.sound c p)) (w.done c p) }
-    where
-      off : (c : ℕ) (k : Stacked s t c) → Dec (k.0 ≡ t - 1) → Where m s (t - 1) (get_or s (t - 1) 0) c
-      off c k (yes e) = inr (inr (sym k.2 ∙ ap (λ (i : ℕ). get_or s i 0) e))
-      off c k (no n) = let i = k.1 in inl (k.0, omega arith, k.2)
+  module _ (w : Walk) (o : ℕ) (k : Working w o) where
+    pub work_few : o ≤ 4096
+    work_few = omega (arith, w.room.cells, k.count)
 
-      place : (c : ℕ) → c < length st.colours → Where m s t nobody c → Where m s (t - 1) (get_or s (t - 1) 0) c
-      place c i (inl k) = off c k (ℕ_discrete k.0 (t - 1))
-      place c i (inr (inl k)) = inr (inl k)
-      place c i (inr (inr e)) = absurd (omega arith)
+    same : length w.colours.now ≡ length st.colours
+    same = ap length k.midway.cells
 
-  -- the cell that was opened has spread
-  walk-full : (m s : List ℕ) (t d : ℕ) → Walk m s t d → Spread m d → Walk m s t nobody
-  walk-full m s t d w k = record { sound = w.sound; on = w.on; done = λ c p. place c (w.done c p) }
-    where
-      place : (c : ℕ) → Where m s t d c → Where m s t nobody c
-      place c (inl p) = inl p
-      place c (inr (inl p)) = inr (inl p)
-      place c (inr (inr e)) = inr (inl (rw e k))
+    -- the newest, c, is taken off the stack
+    module _ (c : ℕ) (stack : ArrayVec ℕ) (e : w.stack.items ≡ stack.items ++ c ∷ []) where
+      -- it is held, so it is a cell
+      top-held : Held st c
+      top-held = k.midway.sound c (k.midway.on c (rw e (in_right c stack.items (c ∷ []) (inl refl))))
 
-  -- the cell that is taken off is held, so it is a cell
-  top-held : (m s : List ℕ) (t o : ℕ) → Working m s t o → 0 < t → Held st (get_or s (t - 1) 0)
-  top-held m s t o k b = k.walk.sound (get_or s (t - 1) 0) (k.walk.on (t - 1) (omega arith))
+      pub taken-cell : c * 4 + 4 ≤ length st.fields
+      taken-cell = omega (arith, held_below c top-held, k.four)
 
-  pub work-cell : (m s : List ℕ) (t o : ℕ) → Working m s t o → 0 < t → get_or s (t - 1) 0 * 4 + 4 ≤ length st.fields
-  work-cell m s t o k b =
-      let u = held_below (get_or s (t - 1) 0) (top-held m s t o k b) in
-      let e = k.four in
-      omega arith
+      one-less : waiting w ≡ length stack.items + 1
+      one-less = rw e (length-append stack.items (c ∷ []))
 
-  pub work-room : (m s : List ℕ) (t o : ℕ) → Working m s t o → Room st.colours m s (t - 1)
-  work-room m s t o k =
-      let r = k.room in
-      record { cells = r.cells; marks = r.marks; stack = r.stack; places = (let p = r.places in omega arith) }
+      module _ (room : Room w.colours.now w.marks stack.items) where
+        abbrev w₁ : Walk
+        w₁ = record { colours = w.colours; marks = w.marks; stack = stack; room = room }
 
-  pub work-more : (m s : List ℕ) (t o : ℕ) (m' s' : List ℕ) (t' : ℕ) → Working m s t o → 0 < t → Pushing st.colours (firsts (field_of st.fields (get_or s (t - 1) 0)) 4) m s (t - 1) m' s' t' → Working m' s' t' (o + 1)
-  work-more m s t o m' s' t' k b p =
-      record {
-        walk = walk-full m' s' t' (get_or s (t - 1) 0) (pushes_walk r (walk_pop m s t k.room.cells b k.walk) named p.did) (λ f i u. pushes_on r p.did (field_of st.fields (get_or s (t - 1) 0) f) (at-firsts (field_of st.fields (get_or s (t - 1) 0)) 4 f i) u);
-        room = p.room;
-        four = k.four;
-        begun = λ c i u. pushes_keeps r p.did c (k.begun c i u);
-        count = (let a = pushes_sum r p.did in let e = k.count in omega arith);
-      }
-    where
-      r : Room st.colours m s (t - 1)
-      r = work-room m s t o k
+        taken_off : Midway w₁ c
+        taken_off = record { cells = k.midway.cells; sound = k.midway.sound; on = λ d i. k.midway.on d (rw e (in_left d stack.items (c ∷ []) i)); done = λ d p. place d (held_below d (k.midway.sound d p)) (k.midway.done d p) }
+          where
+            off : (d : ℕ) → In d stack.items ⊎ In d (c ∷ []) → Where w₁ c d
+            off d (inl i) = inl i
+            off d (inr (inl q)) = inr (inr q)
+            off d (inr (inr i)) = absurd i
 
-      named : (c : ℕ) → In c (firsts (field_of st.fields (get_or s (t - 1) 0)) 4) → InUse st c → Held st c
-      named c i u = let n = firsts_at (field_of st.fields (get_or s (t - 1) 0)) 4 c i in field (get_or s (t - 1) 0) n.0 (top-held m s t o k b) n.1 n.2 u
+            place : (d : ℕ) → d < length st.colours → Where w nobody d → Where w₁ c d
+            place d i (inl j) = off d (in_either d stack.items (c ∷ []) (rw e at j))
+            place d i (inr (inl j)) = inr (inl j)
+            place d i (inr (inr q)) = absurd (omega (arith, w.room.cells, same))
 
-  pub work_less : (m s : List ℕ) (t o : ℕ) (m' s' : List ℕ) (t' : ℕ) → Working m s t o → 0 < t → Pushing st.colours (firsts (field_of st.fields (get_or s (t - 1) 0)) 4) m s (t - 1) m' s' t' → unmarked m' (length st.colours) + t' < unmarked m (length st.colours) + t
-  work_less m s t o m' s' t' k b p = let a = pushes_sum (work-room m s t o k) p.did in omega arith
+        module _ (w' : Walk) (p : Pushing w₁ (fields_of st.fields c) w') where
+          opened : Midway w' c
+          opened = pushes_midway (fields_of st.fields c) w₁ w' c taken_off named p
+            where
+              named : (d : ℕ) → In d (fields_of st.fields c) → InUse st d → Held st d
+              named d i u = let n = named_by st.fields c d i in field c n.0 top-held n.1 n.2 u
+
+          spread : Spread w' c
+          spread f i u = pushes_on (fields_of st.fields c) w₁ w' p (field_of st.fields c f) (names st.fields c f i) (rw taken_off.cells u)
+
+          -- the cell that was opened has spread
+          full : Midway w' nobody
+          full = record { cells = opened.cells; sound = opened.sound; on = opened.on; done = λ d q. place d (opened.done d q) }
+            where
+              place : (d : ℕ) → Where w' c d → Where w' nobody d
+              place d (inl j) = inl j
+              place d (inr (inl j)) = inr (inl j)
+              place d (inr (inr e)) = inr (inl (rw e spread))
+
+          sum : missing w' + waiting w' ≡ missing w + waiting w₁
+          sum = pushes_sum (fields_of st.fields c) w₁ w' p
+
+          pub taken-more : Working w' (o + 1)
+          taken-more = record {
+            midway = full;
+            four = k.four;
+            begun = λ d i u. pushes_keeps (fields_of st.fields c) w₁ w' p d (k.begun d i u);
+            count = omega (arith, sum, one-less, k.count, same, ap length full.cells);
+          }
+
+          pub taken-less : missing w' + waiting w' < missing w + waiting w
+          taken-less = omega (arith, sum, one-less)
 
   -- ---- the end: the marks are the held cells
-  whole : (m s : List ℕ) (o c : ℕ) → Working m s 0 o → Held st c → On m c
-  whole m s o c k (root i u) = k.begun c i u
-  whole m s o c k (field d f h b e u) = rw e (spread (k.walk.done d (whole m s o d k h)) f b (rw e at u))
-    where
-      spread : Where m s 0 nobody d → Spread m d
-      spread (inl j) = let i = j.1 in absurd (omega arith)
-      spread (inr (inl j)) = j
-      spread (inr (inr e')) = let i = held_below d h in let l = k.room.cells in absurd (omega arith)
+  module _ (w : Walk) (o : ℕ) (k : Working w o) (b : w.stack.items ≡ []) where
+    whole : (c : ℕ) → Held st c → On w c
+    whole c (root i u) = k.begun c i u
+    whole c (field d f h l e u) = rw e (spread (k.midway.done d (whole d h)) f l (rw e at u))
+      where
+        spread : Where w nobody d → Spread w d
+        spread (inl j) = absurd (rw b at j)
+        spread (inr (inl j)) = j
+        spread (inr (inr e')) = let i = held_below d h in absurd (omega (arith, w.room.cells, same w o k))
 
-  pub work-end : (m s : List ℕ) (t o : ℕ) → Working m s t o → t ≤ 0 → o + in_use (unreached st) ≡ in_use st.colours
-  work-end m s t o k b =
-      let z : t ≡ 0 = omega arith in
-      let k₀ : Working m s 0 o = rw z at k in
-      let r = k₀.room in
-      let l = r.marks in
-      let j = r.cells in
-      let n = k₀.count in
-      let e =
-      marks-count st.colours (unreached st) m (omega arith)
-      (λ c p. (held-exact st c).0 (k₀.walk.sound c p))
-      (λ c u q. whole m s o c k₀ ((held-exact st c).1 (u, q)))
-      (λ c u. ((floating_exact st c).1 u).0)
-      in
-      omega arith
+    pub work-end : o + in_use (unreached st) ≡ in_use st.colours
+    work-end =
+        let l = w.room.marks in
+        let j = w.room.cells in
+        let n = k.count in
+        let z = ap length b in
+        let s = same w o k in
+        let t : missing w ≡ unmarked w.marks (length st.colours) = ap (unmarked w.marks) s in
+        let e =
+        marks-count st.colours (unreached st) w.marks (omega arith)
+        (λ c p. (held-exact st c).0 (k.midway.sound c p))
+        (λ c u q. whole c ((held-exact st c).1 (u, q)))
+        (λ c u. ((floating_exact st c).1 u).0)
+        in
+        omega arith
 
-pub work_start : (rec : Record) (rows : ℕ) (own : List Row) (fields colours m s m' s' : List ℕ) (t' : ℕ) (m'' s'' : List ℕ) (t'' : ℕ) → Sized rec.n fields colours → Clear m s → Pushing colours (pages rec.g) m s 0 m' s' t' → Pushing colours (slots_from own rows 0) m' s' t' m'' s'' t'' → Working (parts rec (take rows own) fields colours) m'' s'' t'' 0
-work_start rec rows own fields colours m s m' s' t' m'' s'' t'' z r p q =
-    record {
-      walk = pushes_walk st p.room (pushes_walk st room₀ none_yet paged p.did) slotted q.did;
-      room = q.room;
-      four = (let a = z.bytes in let b = z.words in omega arith);
-      begun = λ c i u. marked c u (in_either c (pages rec.g) (slots (take rows own)) i);
-      count = (let a = pushes_sum p.room q.did in let b = pushes_sum room₀ p.did in let e = unmarked-none m (length colours) r.clear in omega arith);
-    }
-  where
-    st : Store
-    st = parts rec (take rows own) fields colours
+-- ---- the loop begins once the pages and the slots are pushed
+module _ (rec : Record) (desk : List Row) (fields : List ℕ) (colours : Bor (List ℕ)) (w₀ w w' : Walk) (z : Sized rec.n fields colours.now) (f : Fresh colours.now w₀) (p : Pushing w₀ (range_with_len 0 rec.g) w) (q : Pushing w (slots desk) w') where
+  abbrev st : Store
+  st = parts rec desk fields colours.now
 
-    room₀ : Room colours m s 0
-    room₀ = clear_room rec.n fields colours m s z r
+  bare : (c : ℕ) → On w₀ c → ⊥
+  bare c o = none-on c (rw f.marks at o)
 
-    none_yet : Walk st m s 0 nobody
-    none_yet = record { sound = λ c o. absurd (r.clear c o); on = λ k b. absurd (omega arith); done = λ c o. absurd (r.clear c o) }
+  begin : Midway st w₀ nobody
+  begin = record { cells = f.colours; sound = λ c o. absurd (bare c o); on = λ c i. absurd (rw f.stack at i); done = λ c o. absurd (bare c o) }
 
-    paged : (c : ℕ) → In c (pages rec.g) → InUse st c → Held st c
-    paged c i u = root (in_left c (pages rec.g) (slots (take rows own)) i) u
+  paged : (c : ℕ) → In c (range_with_len 0 rec.g) → InUse st c → Held st c
+  paged c i u = root (in_left c (pages rec.g) (slots desk) (page_of rec.g c (omega (arith, from_range 0 rec.g c i)))) u
 
-    slotted : (c : ℕ) → In c (slots_from own rows 0) → InUse st c → Held st c
-    slotted c i u = root (in_right c (pages rec.g) (slots (take rows own)) i) u
+  slotted : (c : ℕ) → In c (slots desk) → InUse st c → Held st c
+  slotted c i u = root (in_right c (pages rec.g) (slots desk) i) u
 
-    marked : (c : ℕ) → InUse st c → In c (pages rec.g) ⊎ In c (slots (take rows own)) → On m'' c
-    marked c u (inl i) = pushes_keeps p.room q.did c (pushes_on room₀ p.did c i u)
-    marked c u (inr i) = pushes_on p.room q.did c i u
+  midway₁ : Midway st w nobody
+  midway₁ = pushes_midway st (range_with_len 0 rec.g) w₀ w nobody begin paged p
 
--- ---- the loop, which began with marks m₀ and stack s₀, whatever the record and the desk
-pub record Opening (fields colours m₀ s₀ : List ℕ) (t₀ : ℕ) (m s : List ℕ) (t o : ℕ) : Type 0 where
-  rec : Record
-  desk : List Row
-  works : Working (parts rec desk fields colours) m s t o
-  from : (r : Record) (d : List Row) → Working (parts r d fields colours) m₀ s₀ t₀ 0 → Working (parts r d fields colours) m s t o
+  midway₂ : Midway st w' nobody
+  midway₂ = pushes_midway st (slots desk) w w' nobody midway₁ slotted q
 
-pub open_start : (rec : Record) (rows : ℕ) (own : List Row) (fields colours m s m' s' : List ℕ) (t' : ℕ) (m'' s'' : List ℕ) (t'' : ℕ) → Sized rec.n fields colours → Clear m s → Pushing colours (pages rec.g) m s 0 m' s' t' → Pushing colours (slots_from own rows 0) m' s' t' m'' s'' t'' → Opening fields colours m'' s'' t'' m'' s'' t'' 0
-open_start rec rows own fields colours m s m' s' t' m'' s'' t'' z r p q =
-    record { rec = rec; desk = take rows own; works = work_start rec rows own fields colours m s m' s' t' m'' s'' t'' z r p q; from = λ r d w. w }
+  marked : (c : ℕ) → InUse st c → In c (pages rec.g) ⊎ In c (slots desk) → On w' c
+  marked c u (inl i) = pushes_keeps (slots desk) w w' q c (pushes_on (range_with_len 0 rec.g) w₀ w p c (in_range 0 rec.g c (omega arith) (omega (arith, page-below rec.g c i))) (rw begin.cells u))
+  marked c u (inr i) = pushes_on (slots desk) w w' q c i (rw midway₁.cells u)
 
-module _ (fields colours m₀ s₀ : List ℕ) (t₀ : ℕ) (m s : List ℕ) (t o : ℕ) (k : Opening fields colours m₀ s₀ t₀ m s t o) where
-  pub open_room : Room colours m s (t - 1)
-  open_room = work-room (parts k.rec k.desk fields colours) m s t o k.works
+  pub work_start : Working st w' 0
+  work_start = record {
+    midway = midway₂;
+    four = (let a = z.bytes in let b = z.words in omega arith);
+    begun = λ c i u. marked c u (in_either c (pages rec.g) (slots desk) i);
+    count = omega (arith, pushes_sum (slots desk) w w' q, pushes_sum (range_with_len 0 rec.g) w₀ w p, unmarked-none w₀.marks (length w₀.colours.now) bare, ap length f.stack, ap length begin.cells, ap length midway₂.cells);
+  }
 
-  pub open_places : t ≤ 4096
-  open_places = let r = k.works.room in let b = r.cells in let p = r.places in omega arith
-
-  pub open_few : o ≤ 4096
-  open_few = let r = k.works.room in let b = r.cells in let p = k.works.count in omega arith
-
-  pub open_cell : 0 < t → get_or s (t - 1) 0 * 4 + 4 ≤ length fields
-  open_cell b = work-cell (parts k.rec k.desk fields colours) m s t o k.works b
-
-  module _ (m' s' : List ℕ) (t' : ℕ) (b : 0 < t) (p : Pushing colours (firsts (field_of fields (get_or s (t - 1) 0)) 4) m s (t - 1) m' s' t') where
-    pub open_more : Opening fields colours m₀ s₀ t₀ m' s' t' (o + 1)
-    open_more = record {
-      rec = k.rec;
-      desk = k.desk;
-      works = work-more (parts k.rec k.desk fields colours) m s t o m' s' t' k.works b p;
-      from = λ r d w. work-more (parts r d fields colours) m s t o m' s' t' (k.from r d w) b p;
-    }
-
-    pub open_less : unmarked m' (length colours) + t' < unmarked m (length colours) + t
-    open_less = work_less (parts k.rec k.desk fields colours) m s t o m' s' t' k.works b p
-
-  pub open_end : (rec : Record) (rows : ℕ) (own : List Row) (m₁ s₁ m₂ s₂ : List ℕ) (t₂ : ℕ) → Sized rec.n fields colours → Clear m₁ s₁ → Pushing colours (pages rec.g) m₁ s₁ 0 m₂ s₂ t₂ → Pushing colours (slots_from own rows 0) m₂ s₂ t₂ m₀ s₀ t₀ → t ≤ 0 → o + in_use (unreached (parts rec (take rows own) fields colours)) ≡ in_use colours
-  open_end rec rows own m₁ s₁ m₂ s₂ t₂ z r p q b =
-      work-end (parts rec (take rows own) fields colours) m s t o (k.from rec (take rows own) (work_start rec rows own fields colours m₁ s₁ m₂ s₂ t₂ m₀ s₀ t₀ z r p q)) b
+pub ruleset walks = (fresh_room, work_start, work_few, work-end)

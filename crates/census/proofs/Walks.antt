@@ -1,27 +1,44 @@
 -- How the walk goes: one push, and the pushes of the loops.
-use Rattle.std.specs.Prelude.{◌≡◌, ℕ, zero, suc, ◌+◌, ◌-◌, ◌<◌, ◌≤◌, Bool, true, false, eqb, List, [], ◌∷◌, ◌++◌, length, get_or, take, drop, set}
-use mathlib.Core.Path.{refl, ap, ◌∙◌, subst}
+use Rattle.std.specs.Prelude.{◌≡◌, ℕ, zero, suc, ◌+◌, ◌-◌, ◌*◌, ◌<◌, ◌≤◌, ◌≢◌, Bool, true, false, eqb, List, [], ◌∷◌, ◌++◌, length, get_or, take, drop, set}
+use Rattle.std.specs.List.{FoldsTo, range_with_len}
+use Rattle.std.proofs.lemmas.Fn.{FoldsTo-push}
+use Rattle.std.proofs.Common.{append_assoc, append-nil}
+use Rattle.std.proofs.lemmas.List.{take_more}
+use mathlib.Core.Path.{refl, sym, ap, ◌∙◌}
 use native.Mathlib.Omega.{arith}
 use native.Mathlib.Numerals.{add-one}
 use borrow.Author.Tests.{ne_eqb}
-use lib.ListN.{length-set, drop_of_length-le}
-use lib.Seq.{drop-cons, get_or-take, length-take-le}
+use lib.ListN.{length-set}
+use lib.Seq.{drop-cons}
 use Rattle.machine.specs.Choice.{pick}
-use Rattle.machine.specs.Census.{pages, slots}
+use Rattle.machine.specs.Parts.{colour_of}
+use Rattle.machine.specs.Census.{slots, fields_of}
 use Rattle.machine.specs.declared.Row.{Row}
-use Rattle.census.specs.Walk.{Used, On, unmarked, Room, Pushed, stays, new, Pushes, empty, more, Pushing, firsts, slots_from}
+use Rattle.census.specs.declared.reach.Walk.{Walk}
+use Rattle.census.specs.Room.{unmarked, Room}
+use Rattle.census.specs.Walk.{On, Pushed, stays, Pushing}
 
 -- a cell in use is a cell
-pub used-below : (colours : List ℕ) (c : ℕ) → Used colours c → c < length colours
+pub used-below : (colours : List ℕ) (c : ℕ) → colour_of colours c ≢ 0 → c < length colours
 used-below [] c u = absurd (u refl)
 used-below (x ∷ xs) zero u = omega arith
 used-below (x ∷ xs) (suc c) u = let h = used-below xs c u in omega arith
 
-pub past-free : (colours : List ℕ) (c : ℕ) → length colours ≤ c → Used colours c → ⊥
+past-free : (colours : List ℕ) (c : ℕ) → length colours ≤ c → colour_of colours c ≢ 0 → ⊥
 past-free colours c b u = let h = used-below colours c u in omega arith
 
+-- ---- v is pushed: what is no cell, is free or is marked stays as it is
+pub past_stays : (w : Walk) (v : ℕ) → length w.colours.now ≤ v → Pushed w v w
+past_stays w v h = stays (λ u. absurd (past-free w.colours.now v h u))
+
+pub free_stays : (w : Walk) (v : ℕ) → colour_of w.colours.now v ≡ 0 → Pushed w v w
+free_stays w v h = stays (λ u. absurd (u h))
+
+pub marked_stays : (w : Walk) (v : ℕ) → On w v → Pushed w v w
+marked_stays w v h = stays (λ u. h)
+
 -- ---- how many are not marked: a new mark counts once
-pub unmarked-set : (m : List ℕ) (v n : ℕ) → v < length m → (On m v → ⊥) → v < n → suc (unmarked (set m v 1) n) ≡ unmarked m n
+unmarked-set : (m : List ℕ) (v n : ℕ) → v < length m → get_or m v 0 ≢ 1 → v < n → suc (unmarked (set m v 1) n) ≡ unmarked m n
 unfolding unmarked
 unmarked-set [] v n b q h = absurd (omega arith)
 unmarked-set (y ∷ m) v zero b q h = absurd (omega arith)
@@ -32,92 +49,72 @@ unmarked-set (y ∷ m) (suc v) (suc n) b q h = go (eqb y 1) (unmarked-set m v n 
     go true e = e
     go false e = ap suc e
 
--- so there is a place for a cell that is not marked
-pub room-new : (colours m s : List ℕ) (t v : ℕ) → Room colours m s t → v < length colours → (On m v → ⊥) → t < length colours
-room-new colours m s t v r h q =
-    let b = r.cells in
-    let p = r.marks in
-    let u = r.places in
-    let e = unmarked-set m v (length colours) (omega arith) q h in
-    omega arith
+-- so there is a place for a cell that is not marked, and room as before once it is there
+module _ (w : Walk) (v : ℕ) (h : v < length w.colours.now) (q : On w v → ⊥) where
+  pub fewer : suc (unmarked (set w.marks v 1) (length w.colours.now)) ≡ unmarked w.marks (length w.colours.now)
+  fewer = unmarked-set w.marks v (length w.colours.now) (omega (arith, w.room.cells, w.room.marks)) q h
 
-pub pushed_room : {colours m s : List ℕ} {t v : ℕ} {m' s' : List ℕ} {t' : ℕ} → Room colours m s t → Pushed colours m s t v m' s' t' → Room colours m' s' t'
-pushed_room r (stays h) = r
-pushed_room {colours} {m} {s} {t} {v} r (new u q) =
-    let b = r.cells in
-    let l = r.marks in
-    let k = r.stack in
-    let p = r.places in
-    let i = used-below colours v u in
-    let e = unmarked-set m v (length colours) (omega arith) q i in
-    record { cells = b; marks = length-set m v 1 ∙ l; stack = length-set s t v ∙ k; places = omega arith }
+  pub place-new : length w.stack.items < 4096
+  place-new = omega (arith, w.room.cells, w.room.places, fewer)
 
-pub join : {colours m s : List ℕ} {t : ℕ} {vs m' s' : List ℕ} {t' : ℕ} {ws m'' s'' : List ℕ} {t'' : ℕ} → Pushes colours m s t vs m' s' t' → Pushes colours m' s' t' ws m'' s'' t'' → Pushes colours m s t (ws ++ vs) m'' s'' t''
-join k empty = k
-join k (more j p) = more (join k j) p
+  pub room-new : (s : List ℕ) → length s ≡ length w.stack.items + 1 → Room w.colours.now (set w.marks v 1) s
+  room-new s e = record { cells = w.room.cells; marks = length-set w.marks v 1 ∙ w.room.marks; places = omega (arith, e, w.room.places, fewer) }
 
 -- ---- the loops
-module _ (colours m s : List ℕ) (t : ℕ) where
-  start : Room colours m s t → Pushing colours [] m s t m s t
-  start r = record { did = empty; room = r }
+join : (vs us : List ℕ) (w w' w'' : Walk) → FoldsTo Pushed w vs w' → FoldsTo Pushed w' us w'' → FoldsTo Pushed w (vs ++ us) w''
+join [] us w w' w'' k j = rw k j
+join (v ∷ vs) us w w' w'' k j = (k.0, k.1, join vs us k.0 w' w'' k.2 j)
 
-  next : {vs m' s' : List ℕ} {t' v : ℕ} {m'' s'' : List ℕ} {t'' : ℕ} → Pushing colours vs m s t m' s' t' → Pushed colours m' s' t' v m'' s'' t'' → Pushing colours (v ∷ vs) m s t m'' s'' t''
-  next k p = record { did = more k.did p; room = pushed_room k.room p }
+range-suc : (a n j : ℕ) → a + n ≡ j → range_with_len a (suc n) ≡ range_with_len a n ++ j ∷ []
+range-suc a zero j e = let k : a ≡ j = omega arith in ap (λ (x : ℕ). x ∷ []) k
+range-suc a (suc n) j e = ap (λ (l : List ℕ). a ∷ l) (range-suc (a + 1) n j (omega arith))
 
-  -- the fields of a cell
-  pub firsts-start : (x : ℕ → ℕ) → Room colours m s t → Pushing colours (firsts x 0) m s t m s t
-  unfolding firsts
-  firsts-start x r = start r
+range-more : (n : ℕ) → range_with_len 0 (n + 1) ≡ range_with_len 0 n ++ n ∷ []
+range-more n = rw add-one (range-suc 0 n n (omega arith))
 
-  pub firsts_more : (x : ℕ → ℕ) (n : ℕ) (m' s' : List ℕ) (t' : ℕ) (m'' s'' : List ℕ) (t'' : ℕ) → Pushing colours (firsts x n) m s t m' s' t' → Pushed colours m' s' t' (x n) m'' s'' t'' → Pushing colours (firsts x (n + 1)) m s t m'' s'' t''
-  unfolding firsts
-  firsts_more x n m' s' t' m'' s'' t'' k p = rw (add-one n) (next k p)
+slots-push : (rows : List Row) (row : Row) → slots (rows ++ row ∷ []) ≡ slots rows ++ row.slots
+unfolding slots
+slots-push [] row = append-nil row.slots
+slots-push (r ∷ rows) row = ap (λ (l : List ℕ). r.slots ++ l) (slots-push rows row) ∙ sym (append_assoc r.slots (slots rows) row.slots)
 
-  pub firsts-end : (x : ℕ → ℕ) (n k : ℕ) (m' s' : List ℕ) (t' : ℕ) → Pushing colours (firsts x n) m s t m' s' t' → n ≤ k → k ≤ n → Pushing colours (firsts x k) m s t m' s' t'
-  firsts-end x n k m' s' t' h a b = let e : k ≡ n = omega arith in rw e h
+pub slots-start : (w : Walk) → Pushing w (slots []) w
+unfolding slots
+slots-start w = refl
+
+module _ (w w' w'' : Walk) where
+  -- the numbers of a list
+  pub list-more : (l : List ℕ) (i : ℕ) → Pushing w (take i l) w' → i < length l → Pushed w' (get_or l i 0) w'' → Pushing w (take (i + 1) l) w''
+  list-more l i k b p = rw (take_more l i 0 b) (FoldsTo-push Pushed w (take i l) w' (get_or l i 0) w'' k p)
 
   -- the pages
-  pub pages-start : Room colours m s t → Pushing colours (pages 0) m s t m s t
-  unfolding pages
-  pages-start r = start r
+  pub pages-more : (n : ℕ) → Pushing w (range_with_len 0 n) w' → Pushed w' n w'' → Pushing w (range_with_len 0 (n + 1)) w''
+  pages-more n k p = rw (range-more n) (FoldsTo-push Pushed w (range_with_len 0 n) w' n w'' k p)
 
-  pub pages-more : (n : ℕ) (m' s' : List ℕ) (t' : ℕ) (m'' s'' : List ℕ) (t'' : ℕ) → Pushing colours (pages n) m s t m' s' t' → Pushed colours m' s' t' n m'' s'' t'' → Pushing colours (pages (n + 1)) m s t m'' s'' t''
-  unfolding pages
-  pages-more n m' s' t' m'' s'' t'' k p = rw (add-one n) (next k p)
+  -- the slots of the rows
+  pub slots-more : (desk : List Row) (d : Row) (i : ℕ) → Pushing w (slots (take i desk)) w' → i < length desk → Pushing w' (get_or desk i d).slots w'' → Pushing w (slots (take (i + 1) desk)) w''
+  slots-more desk d i k b p =
+      rw (take_more desk i d b, slots-push (take i desk) (get_or desk i d))
+      (join (slots (take i desk)) (get_or desk i d).slots w w' w'' k p)
 
-  pub pages-end : (n k : ℕ) (m' s' : List ℕ) (t' : ℕ) → Pushing colours (pages n) m s t m' s' t' → n ≤ k → k ≤ n → Pushing colours (pages k) m s t m' s' t'
-  pages-end n k m' s' t' h a b = let e : k ≡ n = omega arith in rw e h
+-- the fields of a cell
+field_next : (fields : List ℕ) (a b n : ℕ) → a < length fields → b ≡ a + 1 → take (suc n) (drop a fields) ≡ get_or fields a 0 ∷ take n (drop b fields)
+field_next fields a b n h e = rw (drop-cons fields a 0 h, e, add-one a)
 
-  -- the slots of a row
-  pub slots-start : (l : List ℕ) (n : ℕ) → length l ≡ n → Room colours m s t → Pushing colours (drop n l) m s t m s t
-  slots-start l n e r = rw (drop_of_length-le l {i = n} (omega arith)) (start r)
+four-fields : (fields : List ℕ) (c : ℕ) → c * 4 + 4 ≤ length fields → take 4 (drop (c * 4) fields) ≡ fields_of fields c
+four-fields fields c h =
+    let z : c * 4 + 0 ≡ c * 4 = omega arith in
+    rw (
+      z,
+      field_next fields (c * 4) (c * 4 + 1) 3 (omega arith) refl,
+      field_next fields (c * 4 + 1) (c * 4 + 2) 2 (omega arith) (omega arith),
+      field_next fields (c * 4 + 2) (c * 4 + 3) 1 (omega arith) (omega arith),
+      field_next fields (c * 4 + 3) (c * 4 + 4) 0 (omega arith) (omega arith),
+    )
+    refl
 
-  pub slots-more : (l : List ℕ) (n i : ℕ) (m' s' : List ℕ) (t' : ℕ) (m'' s'' : List ℕ) (t'' : ℕ) → Pushing colours (drop i l) m s t m' s' t' → 0 < i → i ≤ n → length l ≡ n → Pushed colours m' s' t' (get_or l (i - 1) 0) m'' s'' t'' → Pushing colours (drop (i - 1) l) m s t m'' s'' t''
-  slots-more l n i m' s' t' m'' s'' t'' k z b e p =
-      let j : i ≡ suc (i - 1) = omega arith in
-      let k' : Pushing colours (drop (suc (i - 1)) l) m s t m' s' t' = subst (λ (x : ℕ). Pushing colours (drop x l) m s t m' s' t') j k in
-      rw (drop-cons l (i - 1) 0 (omega arith)) (next k' p)
+pub fields_pushed : (w w' : Walk) (fields : List ℕ) (c : ℕ) → c * 4 + 4 ≤ length fields → Pushing w (take (c * 4 + 4 - c * 4) (drop (c * 4) fields)) w' → Pushing w (fields_of fields c) w'
+fields_pushed w w' fields c h k =
+    let n : c * 4 + 4 - c * 4 ≡ 4 = omega arith in
+    rw (n, four-fields fields c h) at k
 
-  pub slots_end : (l : List ℕ) (i : ℕ) (m' s' : List ℕ) (t' : ℕ) → Pushing colours (drop i l) m s t m' s' t' → i ≤ 0 → Pushing colours l m s t m' s' t'
-  slots_end l i m' s' t' k b = let e : i ≡ 0 = omega arith in rw e at k
-
-  -- the slots of all rows
-  pub desk-start : (own : List Row) (rows n : ℕ) → rows ≤ n → length own ≡ n → Room colours m s t → Pushing colours (slots_from own rows rows) m s t m s t
-  unfolding slots
-  desk-start own rows n b e r = rw (drop_of_length-le (take rows own) {i = rows} (omega (arith, length-take-le rows own (omega arith)))) (start r)
-
-  module _ (own : List Row) (rows : ℕ) (long : rows ≤ length own) where
-    taken : length (take rows own) ≡ rows
-    taken = length-take-le rows own long
-
-    -- d is what the code reads past the end, which it never does
-    pub desk-more : (d : Row) (i : ℕ) (m' s' : List ℕ) (t' : ℕ) (m'' s'' : List ℕ) (t'' : ℕ) → Pushing colours (slots_from own rows i) m s t m' s' t' → 0 < i → i ≤ rows → Pushing colours (get_or own (i - 1) d).slots m' s' t' m'' s'' t'' → Pushing colours (slots_from own rows (i - 1)) m s t m'' s'' t''
-    unfolding slots
-    desk-more d i m' s' t' m'' s'' t'' k z b p =
-        let j : i ≡ suc (i - 1) = omega arith in
-        let k' : Pushing colours (slots_from own rows (suc (i - 1))) m s t m' s' t' = subst (λ (x : ℕ). Pushing colours (slots_from own rows x) m s t m' s' t') j k in
-        rw (drop-cons (take rows own) (i - 1) d (omega (arith, taken)), get_or-take rows own (i - 1) d (omega arith))
-        (record { did = join k'.did p.did; room = p.room })
-
-    pub desk-end : (i : ℕ) (m' s' : List ℕ) (t' : ℕ) → Pushing colours (slots_from own rows i) m s t m' s' t' → i ≤ 0 → Pushing colours (slots_from own rows 0) m s t m' s' t'
-    desk-end i m' s' t' k b = let e : i ≡ 0 = omega arith in rw e at k
+pub ruleset pushes = (past_stays, free_stays, marked_stays, place-new, list-more, pages-more, slots-start, slots-more)

@@ -1,3 +1,4 @@
+pub mod Room
 pub mod Walk
 pub mod Counting
 pub mod Determined

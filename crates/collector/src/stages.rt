@@ -1,87 +1,94 @@
 // Stages 0 to 3, and the turn by the stage.
-ghost use Rattle.std.specs.Prelude.{◌≡◌, true, ◌<◌};
+#![tactic(auto, using(std::proofs::lemmas::Bool::Decides::nat_tests, machine::specs::RangeLaws::record_part, machine::specs::RangeLaws::record_count), unfolding(machine::specs::Choice::refuse, machine::specs::Collector::opening, machine::specs::Collector::waiting, machine::specs::Collector::marking, machine::specs::Collector::by_stage, machine::specs::Collector::collector_turn))]
+
+ghost use Rattle.std.specs.Prelude.{◌≡◌, true, ◌<◌, Ok};
 ghost use Rattle.cells.specs.Sized.{Sized};
 ghost use Rattle.collector.specs.Ready.{Ready};
 ghost use Rattle.machine.specs.Collector.{opening, waiting, marking, by_stage, collector_turn};
 ghost use Rattle.machine.specs.Range.{part_ok};
-ghost use Rattle.machine.specs.Turns.{collected};
+ghost use Rattle.machine.specs.Turns.{by_record, collected};
 
 use crate::scan::scan;
 use crate::sweep::sweep;
-use crate::turns::{entered, left, stepped, stopped, waited};
+use crate::turns::{entered, stepped, waited};
 use cells::gray::{gray, gray_ok};
 use cells::range::record_ok;
-use machine::{Answer, CollectorTurn, Record, Survey};
+use machine::{Answer, CollectorTurn, Record, Refusal};
 
 fn opening(rec: Record) -> CollectorTurn
-    ensures { result ≡ opening rec }
+    ensures { by_record rec (Ok result) ≡ opening rec }
 {
-    left(
-        Answer::Worked,
-        rec,
-        1,
-        rec.place,
-        rec.part,
-        rec.hold,
-        rec.found,
-        1,
-    )
+    CollectorTurn {
+        answer: Answer::Worked,
+        rec: Record {
+            stage: 1,
+            count: 1,
+            ..rec
+        },
+    }
 }
 
-fn waiting(rec: Record, seen: Survey, stage: u8) -> CollectorTurn
+fn waiting(rec: Record, seen: Result<bool, Refusal>, stage: u8) -> Result<CollectorTurn, Refusal>
     requires { rec.count < 4294967295 }
-    ensures { result ≡ waiting rec seen stage }
+    ensures { by_record rec result ≡ waiting rec seen stage }
 {
-    if !seen.fit {
-        return stopped(rec, 2);
+    let same = seen?;
+    if same {
+        return Ok(entered(rec, stage));
     }
-    if seen.same {
-        return entered(rec, stage);
-    }
-    waited(rec)
+    Ok(waited(rec))
 }
 
-fn marking(rec: Record, seen: Survey, fields: &[u16], colours: &mut [u8]) -> CollectorTurn
-    requires { Ready rec fields.now colours.old }
-    ensures { collected result colours.new ≡ marking rec seen colours.old }
+fn marking(
+    rec: Record,
+    seen: Result<bool, Refusal>,
+    colours: &mut [u8],
+) -> Result<CollectorTurn, Refusal>
+    requires { rec.count < 4294967295 }
+    ensures { collected (by_record rec result) colours.new ≡ marking rec seen colours.old }
 {
     if rec.g <= rec.place {
         return waiting(rec, seen, 4);
     }
     if !gray_ok(colours, rec.place) {
-        return stopped(rec, 2);
+        return Err(Refusal::BadNumber);
     }
     gray(colours, rec.place);
-    stepped(rec)
+    Ok(stepped(rec))
 }
 
-fn by_stage(rec: Record, seen: Survey, fields: &[u16], colours: &mut [u8]) -> CollectorTurn
+fn by_stage(
+    rec: Record,
+    seen: Result<bool, Refusal>,
+    fields: &[u16],
+    colours: &mut [u8],
+) -> Result<CollectorTurn, Refusal>
     requires ready { Ready rec fields.now colours.old }
     requires rec_value { part_ok rec ≡ true }
-    ensures { collected result colours.new ≡ by_stage rec seen fields.now colours.old rec.stage }
+    ensures { collected (by_record rec result) colours.new ≡ by_stage rec seen fields.now colours.old rec.stage }
 {
-    let stage = rec.stage;
-    match stage {
-        0 => opening(rec),
+    match rec.stage {
+        0 => Ok(opening(rec)),
         1 => waiting(rec, seen, 2),
         2 => waiting(rec, seen, 3),
-        3 => marking(rec, seen, fields, colours),
+        3 => marking(rec, seen, colours),
         4 => scan(rec, fields, colours),
-        _ => sweep(rec, fields, colours),
+        _ => sweep(rec, colours),
     }
 }
 
+// The collector's turn; `seen` is what a waiting test finds in the statuses.
 pub fn collector_turn(
     rec: Record,
-    seen: Survey,
+    seen: Result<bool, Refusal>,
     fields: &[u16],
     colours: &mut [u8],
-) -> CollectorTurn
+) -> Result<CollectorTurn, Refusal>
     requires { Sized rec.n fields.now colours.old }
-    ensures { collected result colours.new ≡ collector_turn rec seen fields.now colours.old }
+    ensures { collected (by_record rec result) colours.new ≡ collector_turn rec seen fields.now colours.old }
 {
     if !record_ok(rec) {
-        return stopped(rec, 2);
+        return Err(Refusal::BadNumber);
     }
     by_stage(rec, seen, fields, colours)
 }

@@ -1,12 +1,13 @@
 // Stage 5.
-ghost use Rattle.std.specs.Prelude.{◌≡◌};
-ghost use Rattle.collector.specs.Ready.{Ready};
-ghost use Rattle.machine.specs.Collector.{swept, sweeping};
-ghost use Rattle.machine.specs.Turns.{collected};
+#![tactic(auto, using(std::proofs::lemmas::Bool::Decides::nat_tests), unfolding(machine::specs::Choice::refuse, machine::specs::Collector::swept, machine::specs::Collector::sweeping, machine::specs::Range::colour_ok))]
 
-use crate::turns::{entered, stepped, stopped};
+ghost use Rattle.std.specs.Prelude.{◌≡◌, ◌<◌, length};
+ghost use Rattle.machine.specs.Collector.{swept, sweeping};
+ghost use Rattle.machine.specs.Turns.{by_record, collected};
+
+use crate::turns::{entered, stepped};
 use cells::range::colour_ok;
-use machine::{CollectorTurn, Record};
+use machine::{CollectorTurn, Record, Refusal};
 
 fn swept(b: u8) -> u8
     ensures { result ≡ swept b }
@@ -18,17 +19,18 @@ fn swept(b: u8) -> u8
     }
 }
 
-pub fn sweep(rec: Record, fields: &[u16], colours: &mut [u8]) -> CollectorTurn
-    requires { Ready rec fields.now colours.old }
-    ensures { collected result colours.new ≡ sweeping rec colours.old }
+pub fn sweep(rec: Record, colours: &mut [u8]) -> Result<CollectorTurn, Refusal>
+    requires fits { rec.n ≡ length colours.old }
+    requires room { rec.count < 4294967295 }
+    ensures { collected (by_record rec result) colours.new ≡ sweeping rec colours.old }
 {
     if rec.n <= rec.place {
-        return entered(rec, 0);
+        return Ok(entered(rec, 0));
     }
     let b = colours[rec.place as usize];
     if !colour_ok(b) {
-        return stopped(rec, 2);
+        return Err(Refusal::BadNumber);
     }
     colours[rec.place as usize] = swept(b);
-    stepped(rec)
+    Ok(stepped(rec))
 }

@@ -1,5 +1,5 @@
-pub mod Splitting
-pub mod Reading
-pub mod Args
+pub mod Commands
 pub mod Digits
-pub mod Written
+pub mod Reading
+pub mod Splitting
+pub mod Walking

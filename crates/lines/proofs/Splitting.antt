@@ -1,98 +1,45 @@
--- The loops over a line: where a field ends, whether a field is a word.
-use Prim.Native.Nat.{ℕ, suc, ◌+◌, ◌-◌, ◌<◌, ◌≤◌}
-use mathlib.Core.Path.{◌≡◌, refl, ap}
-use mathlib.Core.Bool.{Bool, true, false}
-use mathlib.Core.List.{List, [], ◌∷◌}
+-- One step of the iterator over a line's fields.
+use Prim.Native.Nat.{ℕ}
+use mathlib.Core.Path.{◌≡◌, refl, ◌∙◌, ap, subst}
+use mathlib.Core.Bool.{Bool, true, false, cond}
+use mathlib.Core.List.{List, [], ◌∷◌, ◌++◌}
 use native.Mathlib.Omega.{arith}
-use borrow.Author.Tests.{eq-eqb, ne_eqb}
+use denote.Ref.{Bor}
+use denote.Param.Members.{Mut}
 use lib.Dec.{eqb}
-use lib.ListN.{length, get_or, take, drop, drop_of_length-le, length-drop}
-use lib.Seq.{drop-drop}
-use Rattle.machine.specs.Choice.{pick}
-use Rattle.cells.proofs.Looping.{drop-step}
-use Rattle.lines.specs.Fields.{front, fields, rest_fields, Ends, same}
+use lib.ListN.{length, get_or}
+use Rattle.std.specs.Prelude.{Option, Some, None}
+use Rattle.std.specs.Bool.{MatchBool}
+use Rattle.std.specs.Fn.{ComputesKey, CalledAt}
+use Rattle.std.specs.List.{All, IsFirstMatchOrLen}
+use Rattle.std.specs.Slice.Iter.{split_rest, split_done, split_callee, split_steps}
+use Rattle.std.specs.declared.slice.Split.{Split}
+use Rattle.std.proofs.lemmas.Fn.{always_returns_same}
+use Rattle.std.proofs.lemmas.Grind.{common_steps}
+use Rattle.std.proofs.lemmas.List.Splits.{slice_split_none, slice_split_at}
+use Rattle.lines.specs.Bytes.{tab}
+use Rattle.lines.specs.Fields.{fields}
 
--- how long the first field is
-unfoldable pub field_len : List ℕ → ℕ
-field_len [] = 0
-field_len (b ∷ bs) = pick (eqb b 9) 0 (suc (field_len bs))
+-- the fields that are left
+abbrev pub left : {F : Type 0} → Split ℕ F → List (List ℕ)
+left i = cond (split_done i) [] (fields (split_rest i))
 
-cut : (b : ℕ) (bs : List ℕ) (t : Bool) → eqb b 9 ≡ t → fields bs ≡ take (field_len bs) bs ∷ rest_fields (drop (field_len bs) bs)
-    → pick t ([] ∷ fields bs) (front b (fields bs)) ≡ take (pick t 0 (suc (field_len bs))) (b ∷ bs) ∷ rest_fields (drop (pick t 0 (suc (field_len bs))) (b ∷ bs))
-unfolding rest_fields
-cut b bs true p e = refl
-cut b bs false p e = rw e refl
+first : (l f rest : List ℕ) (done : Bool) → MatchBool done (l ≡ f) ((b : ℕ) × (l ≡ f ++ (b ∷ rest))) → IsFirstMatchOrLen (λ b. eqb b tab) l (length f) → fields l ≡ f ∷ cond done [] (fields rest)
+first l f rest true e h = ap fields e ∙ slice_split_none (λ b. eqb b tab) f (λ k d b. subst (λ m. eqb (get_or m k d) tab ≡ false) e (h.0 k d (omega arith) b))
+first l f rest false e h =
+    let front : All (λ b. eqb b tab ≡ false) f = λ k d b. let a = h.0 k d (omega arith) b in let z = e.1 in grind (arith, common_steps) in
+    let hit : eqb e.0 tab ≡ true = let z = e.1 in let a = h.1 (grind (arith, common_steps)) e.0 in grind (arith, common_steps) in
+    ap fields e.1 ∙ slice_split_at (λ b. eqb b tab) f e.0 rest front hit
 
-pub fields_split : (l : List ℕ) → fields l ≡ take (field_len l) l ∷ rest_fields (drop (field_len l) l)
-unfolding fields rest_fields field_len
-fields_split [] = refl
-fields_split (b ∷ bs) = cut b bs (eqb b 9) refl (fields_split bs)
+pub all_left : {F : Type 0} (i : Split ℕ F) (l : List ℕ) → split_rest i ≡ l → split_done i ≡ false → left i ≡ fields l
+all_left i l e d = rw (e, d) refl
 
-len_pick : (t : Bool) (n m : ℕ) → n ≤ m → pick t 0 (suc n) ≤ suc m
-len_pick true n m h = omega arith
-len_pick false n m h = omega arith
+module _ {F : Type 0} (g : Mut F (Bor ℕ × Unit {0}) Bool) (i j : Split ℕ F) (r : Option (Bor (List ℕ))) (k : split_steps g i r j) where
+  pub one_left : (f : Bor (List ℕ)) → r ≡ Some f → ((b : ℕ) (t : Bool) (q : F) → CalledAt g (split_callee i) b t q → (q ≡ split_callee i) × (t ≡ eqb b tab)) → left i ≡ f.now ∷ left j
+  one_left f e h =
+      let m = rw e at k in
+      let c : ComputesKey g (λ b. eqb b tab) (split_callee i) = always_returns_same g (λ a t. t ≡ eqb a.0.now tab) (split_callee i) (λ a t q s. let z = h a.0.now t q (record { shown = a.0; shows = refl; called = s }) in (z.1, z.0)) in
+      ap (λ b. cond b [] (fields (split_rest i))) m.0 ∙ first _ f.now (split_rest j) (split_done j) m.1 (m.2 (λ b. eqb b tab) c).1
 
-field_len-le : (l : List ℕ) → field_len l ≤ length l
-unfolding field_len
-field_len-le [] = omega arith
-field_len-le (b ∷ bs) = len_pick (eqb b 9) (field_len bs) (length bs) (field_len-le bs)
-
-pub ends : (s : List ℕ) (from r : ℕ) → from ≤ length s → r ≡ from + field_len (drop from s) → Ends s from r
-ends s from r h e =
-    let b = field_len-le (drop from s) in
-    let l = length-drop from s in
-    let d : r - from ≡ field_len (drop from s) = omega arith in
-    let g : drop r s ≡ drop (field_len (drop from s)) (drop from s) = rw (e, drop-drop) refl in
-    record { low = omega arith; high = omega arith; split = rw (d, g) (fields_split (drop from s)) }
-
-pub at-tab : (s : List ℕ) (from i : ℕ) → from ≤ length s → i + field_len (drop i s) ≡ from + field_len (drop from s) → i < length s → get_or s i 0 ≡ 9 → Ends s from i
-unfolding field_len
-at-tab s from i h p b e = ends s from i h (let z : field_len (drop i s) ≡ 0 = rw (drop-step s i b, eq-eqb (get_or s i 0) 9 e) refl in omega arith)
-
-pub at-end : (s : List ℕ) (from i : ℕ) → from ≤ length s → i + field_len (drop i s) ≡ from + field_len (drop from s) → length s ≤ i → Ends s from i
-unfolding field_len
-at-end s from i h p b = ends s from i h (let z : field_len (drop i s) ≡ 0 = rw (drop_of_length-le s b) refl in omega arith)
-
-pub no-tab : (s : List ℕ) (from i : ℕ) → i + field_len (drop i s) ≡ from + field_len (drop from s) → i < length s → (get_or s i 0 ≡ 9 → ⊥) → (i + 1) + field_len (drop (i + 1) s) ≡ from + field_len (drop from s)
-unfolding field_len
-no-tab s from i p b e =
-    let z : field_len (drop i s) ≡ suc (field_len (drop (i + 1) s)) = rw (drop-step s i b, ne_eqb (get_or s i 0) 9 e) refl in omega arith
-
-pub ruleset tabs = (at-tab, at-end, no-tab)
-
--- a field is a word
-tail : (t x : Bool) → false ≡ x → false ≡ pick t x false
-tail true x e = e
-tail false x e = refl
-
-pub same-apart : (f w : List ℕ) → (length f ≡ length w → ⊥) → false ≡ same f w
-unfolding same
-same-apart [] [] n = absurd (n refl)
-same-apart [] (b ∷ w) n = refl
-same-apart (a ∷ f) [] n = refl
-same-apart (a ∷ f) (b ∷ w) n = tail (eqb a b) (same f w) (same-apart f w (λ e. n (ap suc e)))
-
-same_step : (f w : List ℕ) (i : ℕ) → i < length f → i < length w → same (drop i f) (drop i w) ≡ pick (eqb (get_or f i 0) (get_or w i 0)) (same (drop (i + 1) f) (drop (i + 1) w)) false
-unfolding same
-same_step f w i p q = rw (drop-step f i p, drop-step w i q) refl
-
-pub same_stop : (f w : List ℕ) (i : ℕ) → length f ≡ length w → same (drop i f) (drop i w) ≡ same f w → i < length f → (get_or f i 0 ≡ get_or w i 0 → ⊥) → false ≡ same f w
-same_stop f w i l p b n = rw (← p, same_step f w i b (rw (← l) b), ne_eqb (get_or f i 0) (get_or w i 0) n) refl
-
-pub same_more : (f w : List ℕ) (i : ℕ) → length f ≡ length w → same (drop i f) (drop i w) ≡ same f w → i < length f → get_or f i 0 ≡ get_or w i 0 → same (drop (i + 1) f) (drop (i + 1) w) ≡ same f w
-same_more f w i l p b e = rw (← p, same_step f w i b (rw (← l) b), eq-eqb (get_or f i 0) (get_or w i 0) e) refl
-
-pub same_end : (f w : List ℕ) (i : ℕ) → length f ≡ length w → same (drop i f) (drop i w) ≡ same f w → length f ≤ i → true ≡ same f w
-unfolding same
-same_end f w i l p b = let q : length w ≤ i = rw (← l) b in rw (← p, drop_of_length-le f b, drop_of_length-le w q) refl
-
-pub ruleset sames = (same-apart, same_stop, same_more, same_end)
-
--- what the rest of a line is at its end, and after a tab
-pub rest_end : (s : List ℕ) (at : ℕ) → length s ≤ at → rest_fields (drop at s) ≡ []
-unfolding rest_fields
-rest_end s at h = rw (drop_of_length-le s h) refl
-
-pub rest-tab : (s : List ℕ) (at : ℕ) → at < length s → rest_fields (drop at s) ≡ fields (drop (at + 1) s)
-unfolding rest_fields
-rest-tab s at h = rw (drop-step s at h) refl
+  pub none_left : r ≡ None → left i ≡ []
+  none_left e = let m = rw e at k in ap (λ b. cond b [] (fields (split_rest i))) m.0

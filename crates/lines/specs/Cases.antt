@@ -1,18 +1,17 @@
 -- The paper's whole case: each of its lines as it is read, and its output as it is written; then other lines, on both sides of each
 -- rule. All by computing. A comment shows a line's text, with `→` for a tab.
-use Rattle.std.specs.Prelude.{ℕ, ◌+◌, ◌≡◌, refl, List, [], ◌∷◌, ◌++◌}
+use Rattle.std.specs.Prelude.{ℕ, ◌+◌, ◌≡◌, refl, List, [], ◌∷◌, ◌++◌, Option, Some, None, Ok, Err}
 use Rattle.machine.specs.Choice.{all, every}
 use Rattle.machine.specs.Answer.{Said, said_by, said_by_census}
 use Rattle.machine.specs.declared.Call.{Call}
 use Rattle.machine.specs.declared.Answer.{Answer}
-use Rattle.machine.specs.declared.Report.{Report}
-use Rattle.lines.specs.Numbers.{is_digit, value_from, number_of, digits_of, decimal}
-use Rattle.lines.specs.Fields.{fields, same}
-use Rattle.lines.specs.Lines.{args_of, with_number, args_from, line_none, line_one, line_two, line_three, line_four, line_for, command_of, line_of}
+use Rattle.machine.specs.declared.Refusal.TheVariants.{BadNumber, Full}
+use Rattle.lines.specs.Numbers.{value_from, number_of, digits_of, decimal}
+use Rattle.lines.specs.Lines.{numbers_of, command, command_of, line_of}
 use Rattle.lines.specs.Output.{tabbed, parted, word_text, said_text, out_line}
 use Rattle.lines.specs.declared.Line.{Line}
 
-unfoldable pub lines_of : List (List ℕ) → List Line
+unfoldable pub lines_of : List (List ℕ) → List (Option Line)
 lines_of [] = []
 lines_of (l ∷ ls) = line_of l ∷ lines_of ls
 
@@ -30,25 +29,25 @@ pub case_read : lines_of
     (100 ∷ 114 ∷ 111 ∷ 112 ∷ 9 ∷ 48 ∷ 9 ∷ 48 ∷ []) ∷  -- drop→0→0
     (99 ∷ 101 ∷ 110 ∷ 115 ∷ 117 ∷ 115 ∷ []) ∷  -- census
     [])
-    ≡ Line.Start 2 1 1
-    ∷ Line.Write 0 (Call.Create 0)
-    ∷ Line.Write 0 Call.Next
-    ∷ Line.Write 0 Call.Next
-    ∷ Line.Write 0 (Call.Create 1)
-    ∷ Line.Write 0 (Call.Drop 0)
-    ∷ Line.Census
+    ≡ Some (Line.Start 2 1 1)
+    ∷ Some (Line.Write 0 (Call.Create 0))
+    ∷ Some (Line.Write 0 Call.Next)
+    ∷ Some (Line.Write 0 Call.Next)
+    ∷ Some (Line.Write 0 (Call.Create 1))
+    ∷ Some (Line.Write 0 (Call.Drop 0))
+    ∷ Some Line.Census
     ∷ []
-unfolding is_digit value_from number_of all every fields same args_of with_number args_from line_none line_one line_two line_three line_four line_for command_of line_of lines_of
+unfolding value_from number_of all every numbers_of command command_of line_of lines_of
 case_read = refl
 
 pub case_written : out_lines 1
-    (said_by Answer.Done
-    ∷ said_by Answer.More
-    ∷ said_by Answer.More
-    ∷ said_by Answer.Done
-    ∷ said_by (Answer.Refused 7)
-    ∷ said_by Answer.Done
-    ∷ said_by_census (Report.Counted (record { free = 0; white = 2; gray = 0; black = 0; held = 1; floating = 1 })) ∷ [])
+    (said_by (Ok Answer.Done)
+    ∷ said_by (Ok Answer.More)
+    ∷ said_by (Ok Answer.More)
+    ∷ said_by (Ok Answer.Done)
+    ∷ said_by (Err Full)
+    ∷ said_by (Ok Answer.Done)
+    ∷ said_by_census (Ok (record { free = 0; white = 2; gray = 0; black = 0; held = 1; floating = 1 })) ∷ [])
     ≡ 49 ∷ 9 ∷ 100 ∷ 111 ∷ 110 ∷ 101 ∷ 10  -- 1→done
     ∷ 50 ∷ 9 ∷ 109 ∷ 111 ∷ 114 ∷ 101 ∷ 10  -- 2→more
     ∷ 51 ∷ 9 ∷ 109 ∷ 111 ∷ 114 ∷ 101 ∷ 10  -- 3→more
@@ -70,15 +69,15 @@ pub others-read : lines_of
     (110 ∷ 101 ∷ 120 ∷ 116 ∷ 9 ∷ 48 ∷ 48 ∷ 48 ∷ 48 ∷ 55 ∷ []) ∷  -- next→00007
     (99 ∷ 111 ∷ 108 ∷ 108 ∷ 101 ∷ 99 ∷ 116 ∷ []) ∷  -- collect
     [])
-    ≡ Line.Write 7 (Call.Page 15 3)
-    ∷ Line.Write 0 (Call.Copy 1 2)
-    ∷ Line.Write 0 (Call.Read 1 2 3)
-    ∷ Line.Write 0 (Call.Store 1 2 3)
-    ∷ Line.Write 99999 Call.Answer
-    ∷ Line.Write 7 Call.Next
-    ∷ Line.Collect
+    ≡ Some (Line.Write 7 (Call.Page 15 3))
+    ∷ Some (Line.Write 0 (Call.Copy 1 2))
+    ∷ Some (Line.Write 0 (Call.Read 1 2 3))
+    ∷ Some (Line.Write 0 (Call.Store 1 2 3))
+    ∷ Some (Line.Write 99999 Call.Answer)
+    ∷ Some (Line.Write 7 Call.Next)
+    ∷ Some Line.Collect
     ∷ []
-unfolding is_digit value_from number_of all every fields same args_of with_number args_from line_none line_one line_two line_three line_four line_for command_of line_of lines_of
+unfolding value_from number_of all every numbers_of command command_of line_of lines_of
 others-read = refl
 
 -- a number of six digits; none; one too few; one too many; two tabs; a tab at the end, or first; a space; no digit; no such word
@@ -99,30 +98,30 @@ pub none_read : lines_of
     (78 ∷ 101 ∷ 120 ∷ 116 ∷ 9 ∷ 48 ∷ []) ∷  -- Next→0
     (99 ∷ 111 ∷ 108 ∷ 108 ∷ 101 ∷ 99 ∷ 116 ∷ 115 ∷ []) ∷  -- collects
     [])
-    ≡ Line.Unreadable
-    ∷ Line.Unreadable
-    ∷ Line.Unreadable
-    ∷ Line.Unreadable
-    ∷ Line.Unreadable
-    ∷ Line.Unreadable
-    ∷ Line.Unreadable
-    ∷ Line.Unreadable
-    ∷ Line.Unreadable
-    ∷ Line.Unreadable
-    ∷ Line.Unreadable
-    ∷ Line.Unreadable
-    ∷ Line.Unreadable
-    ∷ Line.Unreadable
-    ∷ Line.Unreadable
+    ≡ None
+    ∷ None
+    ∷ None
+    ∷ None
+    ∷ None
+    ∷ None
+    ∷ None
+    ∷ None
+    ∷ None
+    ∷ None
+    ∷ None
+    ∷ None
+    ∷ None
+    ∷ None
+    ∷ None
     ∷ []
-unfolding is_digit value_from number_of all every fields same args_of with_number args_from line_none line_one line_two line_three line_four line_for command_of line_of lines_of
+unfolding value_from number_of all every numbers_of command command_of line_of lines_of
 none_read = refl
 
 -- the other answers, and the largest line number
 pub others-written : out_lines 4294967293
-    (said_by Answer.Worked
-    ∷ said_by Answer.Waited
-    ∷ said_by_census (Report.Refused 2) ∷ [])
+    (said_by (Ok Answer.Worked)
+    ∷ said_by (Ok Answer.Waited)
+    ∷ said_by_census (Err BadNumber) ∷ [])
     ≡ 52 ∷ 50 ∷ 57 ∷ 52 ∷ 57 ∷ 54 ∷ 55 ∷ 50 ∷ 57 ∷ 51 ∷ 9 ∷ 119 ∷ 111 ∷ 114 ∷ 107 ∷ 101 ∷ 100 ∷ 10  -- 4294967293→worked
     ∷ 52 ∷ 50 ∷ 57 ∷ 52 ∷ 57 ∷ 54 ∷ 55 ∷ 50 ∷ 57 ∷ 52 ∷ 9 ∷ 119 ∷ 97 ∷ 105 ∷ 116 ∷ 101 ∷ 100 ∷ 10  -- 4294967294→waited
     ∷ 52 ∷ 50 ∷ 57 ∷ 52 ∷ 57 ∷ 54 ∷ 55 ∷ 50 ∷ 57 ∷ 53 ∷ 9 ∷ 114 ∷ 101 ∷ 102 ∷ 117 ∷ 115 ∷ 101 ∷ 100 ∷ 32 ∷ 50 ∷ 10  -- 4294967295→refused 2

@@ -1,11 +1,7 @@
 -- Decimal numbers: read from a field, and written.
-use Rattle.std.specs.Prelude.{ℕ, zero, suc, ◌+◌, ◌*◌, ◌-◌, ◌/◌, ◌%◌, List, [], ◌∷◌, Bool, ltb, leb, length}
+use Rattle.std.specs.Prelude.{ℕ, zero, suc, ◌+◌, ◌*◌, ◌-◌, ◌/◌, ◌%◌, List, [], ◌∷◌, ltb, leb, length, Option, Some, None}
+use Rattle.std.specs.Char.{is_ascii_digit}
 use Rattle.machine.specs.Choice.{pick, all, every}
-use Rattle.lines.specs.declared.numbers.Number.{Number}
-
--- a byte from "0" to "9"
-unfoldable pub is_digit : ℕ → Bool
-is_digit b = every (leb 48 b ∷ leb b 57 ∷ [])
 
 -- what the digits are worth after others worth v
 unfoldable pub value_from : ℕ → List ℕ → ℕ
@@ -13,11 +9,11 @@ value_from v [] = v
 value_from v (b ∷ bs) = value_from (v * 10 + (b - 48)) bs
 
 -- "decimal numbers of 1 to 5 digits"
-unfoldable pub number_of : List ℕ → Number
+unfoldable pub number_of : List ℕ → Option ℕ
 number_of f =
-    pick (every (leb 1 (length f) ∷ leb (length f) 5 ∷ all is_digit f ∷ []))
-    (Number.Num (value_from 0 f))
-    Number.Bad
+    pick (every (leb 1 (length f) ∷ leb (length f) 5 ∷ all is_ascii_digit f ∷ []))
+    (Some (value_from 0 f))
+    None
 
 -- the last k digits of n, without zeros in front, before those of acc
 unfoldable pub digits_of : ℕ → ℕ → List ℕ → List ℕ

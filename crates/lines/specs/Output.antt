@@ -1,6 +1,8 @@
--- What an output line is, and what it means that bytes were written.
-use Rattle.std.specs.Prelude.{ℕ, ◌+◌, ◌≡◌, List, [], ◌∷◌, ◌++◌, length, take}
-use Rattle.machine.specs.Answer.{Word, done, more, worked, waited, refused, counts, Said}
+-- What an output line is.
+use Rattle.std.specs.Prelude.{ℕ, List, [], ◌∷◌, ◌++◌, Result, Ok, Err}
+use Rattle.machine.specs.Answer.{Word, done, more, worked, waited, refused, counts, Said, said_by, said_by_census}
+use Rattle.machine.specs.declared.Refusal.{Refusal}
+use Rattle.lines.specs.declared.Reply.{Reply}
 use Rattle.lines.specs.Bytes as bytes
 use Rattle.lines.specs.Numbers.{decimal}
 
@@ -27,12 +29,12 @@ word_text counts ns = parted ns
 unfoldable pub said_text : Said → List ℕ
 said_text s = word_text s.word s.numbers
 
+-- what the reply to a line says
+unfoldable pub said_of : Result Reply Refusal → Said
+said_of (Ok (Reply.Answered a)) = said_by (Ok a)
+said_of (Ok (Reply.Counted c)) = said_by_census (Ok c)
+said_of (Err k) = said_by (Err k)
+
 -- "Each line gives one output line: its number from 1, a tab, then" what is said; byte 10 ends it
 unfoldable pub out_line : ℕ → Said → List ℕ
 out_line number s = tabbed number ++ said_text s ++ bytes.line_end ∷ []
-
--- from `at` to r the bytes w were written: what stands before r is what stood before `at`, and w
-pub record Wrote (old new : List ℕ) (at r : ℕ) (w : List ℕ) : Type 0 where
-  pub long : length new ≡ length old
-  pub next : r ≡ at + length w
-  pub text : take r new ≡ take at old ++ w

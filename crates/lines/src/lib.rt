@@ -1,16 +1,14 @@
 // The player's text, without the machine's memory: a line of the input is read, an output line is written.
 #![tactic(auto)]
 
-use machine::Call;
+use machine::{Answer, Call, Counts};
 
-mod bytes;
-mod fields;
 mod numbers;
+mod out_line;
 mod parse;
-mod print;
 
+pub use out_line::{LONGEST, put_reply};
 pub use parse::parse_line;
-pub use print::{put_answer, put_report};
 
 // A line of the input: Start(N, g, M), Write(w, the writer's call), with the numbers as read.
 #[derive(Clone, Copy)]
@@ -19,5 +17,11 @@ pub enum Line {
     Write(u32, Call),
     Collect,
     Census,
-    Unreadable,
+}
+
+// What a line is answered with that is not refused.
+#[derive(Clone, Copy)]
+pub enum Reply {
+    Answered(Answer),
+    Counted(Counts),
 }

@@ -1,96 +1,53 @@
 // A line of at most 64 bytes: a word and its numbers.
 ghost use Rattle.std.specs.Prelude.{◌≡◌};
-ghost use Rattle.lines.specs.Lines.{line_none, line_one, line_two, line_three, line_four, line_for, line_of};
+ghost use Rattle.std.specs.Str.{bytes_eq};
+ghost use Rattle.lines.specs.Lines.{command, line_of};
 
 use crate::Line;
-use crate::fields::{field_end, is};
-use crate::numbers::{Args, args_of};
+use crate::numbers::read_number;
+use arrayvec::ArrayVec;
 use machine::Call;
 
-// The words that stand alone; then those that stand with one number; and so on.
-fn line_none(w: &[u8]) -> Line
-    ensures { result ≡ line_none w.now }
+// Whether a field is a word.
+fn is(field: &[u8], word: &[u8]) -> bool
+    ensures { result ≡ bytes_eq field.now word.now }
 {
-    if is(w, b"collect") {
-        return Line::Collect;
-    }
-    if is(w, b"census") {
-        return Line::Census;
-    }
-    Line::Unreadable
+    field == word
 }
 
-fn line_one(w: &[u8], a: u32) -> Line
-    ensures { result ≡ line_one w.now a }
+// The word says what the numbers are.
+#[tactic(auto, using(crate::proofs::Commands::numbers), unfolding(crate::specs::Lines::command))]
+fn command(word: &[u8], numbers: &[u32]) -> Option<Line>
+    ensures { result ≡ command word.now numbers.now }
 {
-    if is(w, b"next") {
-        return Line::Write(a, Call::Next);
-    }
-    if is(w, b"answer") {
-        return Line::Write(a, Call::Answer);
-    }
-    Line::Unreadable
-}
-
-fn line_two(w: &[u8], a: u32, b: u32) -> Line
-    ensures { result ≡ line_two w.now a b }
-{
-    if is(w, b"drop") {
-        return Line::Write(a, Call::Drop(b));
-    }
-    if is(w, b"create") {
-        return Line::Write(a, Call::Create(b));
-    }
-    Line::Unreadable
-}
-
-fn line_three(w: &[u8], a: u32, b: u32, c: u32) -> Line
-    ensures { result ≡ line_three w.now a b c }
-{
-    if is(w, b"copy") {
-        return Line::Write(a, Call::Copy(b, c));
-    }
-    if is(w, b"page") {
-        return Line::Write(a, Call::Page(b, c));
-    }
-    if is(w, b"start") {
-        return Line::Start(a, b, c);
-    }
-    Line::Unreadable
-}
-
-fn line_four(w: &[u8], a: u32, b: u32, c: u32, d: u32) -> Line
-    ensures { result ≡ line_four w.now a b c d }
-{
-    if is(w, b"read") {
-        return Line::Write(a, Call::Read(b, c, d));
-    }
-    if is(w, b"store") {
-        return Line::Write(a, Call::Store(b, c, d));
-    }
-    Line::Unreadable
-}
-
-fn line_for(w: &[u8], x: Args) -> Line
-    ensures { result ≡ line_for w.now x }
-{
-    match x {
-        Args::Zero => line_none(w),
-        Args::One(a) => line_one(w, a),
-        Args::Two(a, b) => line_two(w, a, b),
-        Args::Three(a, b, c) => line_three(w, a, b, c),
-        Args::Four(a, b, c, d) => line_four(w, a, b, c, d),
-        Args::Wrong => Line::Unreadable,
+    match numbers {
+        [] if is(word, b"collect") => Some(Line::Collect),
+        [] if is(word, b"census") => Some(Line::Census),
+        &[w] if is(word, b"next") => Some(Line::Write(w, Call::Next)),
+        &[w] if is(word, b"answer") => Some(Line::Write(w, Call::Answer)),
+        &[w, r] if is(word, b"drop") => Some(Line::Write(w, Call::Drop(r))),
+        &[w, s] if is(word, b"create") => Some(Line::Write(w, Call::Create(s))),
+        &[w, r, s] if is(word, b"copy") => Some(Line::Write(w, Call::Copy(r, s))),
+        &[w, p, s] if is(word, b"page") => Some(Line::Write(w, Call::Page(p, s))),
+        &[n, g, m] if is(word, b"start") => Some(Line::Start(n, g, m)),
+        &[w, r, f, s] if is(word, b"read") => Some(Line::Write(w, Call::Read(r, f, s))),
+        &[w, r, f, q] if is(word, b"store") => Some(Line::Write(w, Call::Store(r, f, q))),
+        _ => None,
     }
 }
 
-pub fn parse_line(s: &[u8]) -> Line
+pub fn parse_line(s: &[u8]) -> Option<Line>
     ensures { result ≡ line_of s.now }
 {
     if 64 < s.len() {
-        return Line::Unreadable;
+        return None;
     }
-    let e = field_end(s, 0);
-    let x = args_of(s, e);
-    line_for(&s[..e], x)
+    let mut fields = s.split(|b| *b == b'\t');
+    let word = fields.next()?;
+    // No line has more than four numbers.
+    let mut numbers = ArrayVec::<u32, 4>::new();
+    for field in fields {
+        numbers.try_push(read_number(field)?).ok()?;
+    }
+    command(word, &numbers)
 }

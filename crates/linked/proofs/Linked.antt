@@ -1,12 +1,10 @@
 -- What the exported calls' contracts and demand 3 give together, for a program in C or Rust that is linked with the exported calls: it starts
 -- a store by turns_lent_start and from then on changes it by these calls alone. Then the memory that it has is that of a run, and so all
 -- that demand 3 says of runs holds of it.
-use Rattle.std.specs.Prelude.{ℕ, ◌<◌, ◌≡◌, refl}
+use Rattle.std.specs.Prelude.{ℕ, ◌<◌, ◌≡◌, refl, [], ◌∷◌, Ok, Err}
 use Rattle.std.proofs.Common.{sym, ap, ◌∙◌, subst, arith}
 use Rattle.machine.specs.Store.{Store, fresh}
 use Rattle.machine.specs.Machine.{turn}
-use Rattle.machine.specs.declared.Answer.{Answer}
-use Rattle.machine.specs.declared.Answer.TheVariants.{Done, More, Worked, Waited, Refused}
 use Rattle.runs.specs.Demand3.{Free}
 use Rattle.runs.specs.Site.{Promised}
 use Rattle.runs.proofs.Site.{played-run, promised}
@@ -18,15 +16,20 @@ use Rattle.linked.specs.Playing.{Lasting}
 use Rattle.linked.proofs.Playing.{kept, meets, lasting, played}
 use Rattle.linked.proofs.Beginning.{run-tellable, begun}
 use Rattle.linked.specs.Linked.{Linked}
+use Rattle.machine.specs.Answer.{Answered, number, refused, said, said_by}
+use Rattle.machine.proofs.AnswerLaws.{answer-said}
+use Rattle.machine.specs.declared.Refusal.{Refusal}
+use Rattle.machine.specs.declared.Refusal.TheVariants.{BadSize, BadNumber}
+use Rattle.machine.specs.declared.Answer.TheVariants.{Done, More, Worked, Waited}
 
 -- an answer's number below 100 is a refusal's
-number-refused : (a : Answer) (k : ℕ) → k < 100 → k ≡ answer_number a → a ≡ Refused k
-unfolding answer_number
-number-refused Done k h e = absurd (omega arith)
-number-refused More k h e = absurd (omega arith)
-number-refused Worked k h e = absurd (omega arith)
-number-refused Waited k h e = absurd (omega arith)
-number-refused (Refused j) k h e = ap Refused (sym e)
+number-refused : (a : Answered) (k : Refusal) → number k < 100 → number k ≡ answer_number a → a ≡ Err k
+unfolding answer_number said_by
+number-refused (Ok Done) k h e = absurd (omega arith)
+number-refused (Ok More) k h e = absurd (omega arith)
+number-refused (Ok Worked) k h e = absurd (omega arith)
+number-refused (Ok Waited) k h e = absurd (omega arith)
+number-refused (Err j) k h e = answer-said (Err j) (Err k) (ap (λ (n : ℕ). said refused (n ∷ [])) (sym e))
 
 -- each sentence from that of a site of the public calls (`Promised`), since the exported calls play the machine's turns
 lasting-linked : {n g m : ℕ} {new : Lent} → store_of new ≡ fresh n g m → Lasting new → Promised n g (store_of new) → Linked n g m new
@@ -44,7 +47,7 @@ lasting-linked {n} {g} {m} {new} b L P = record {
   in_range = λ ts now c t a after e.
       let k = P.in_range ts (store_of now) (played L c) t (turn t (store_of now)).answer (store_of after) (meets (lasting L c) t e) in
       let q = (kept (lasting L c) t e).answer in
-      (λ z. k.0 (number-refused _ 1 (omega arith) (sym z ∙ q)), λ z. k.1 (number-refused _ 2 (omega arith) (sym z ∙ q)));
+      (λ z. k.0 (number-refused _ BadSize (omega arith) (sym z ∙ q)), λ z. k.1 (number-refused _ BadNumber (omega arith) (sym z ∙ q)));
 }
 
 -- THE THEOREM: a start that answers 100 (done), on any lent memory, has made such a memory

@@ -15,14 +15,15 @@ use Rattle.machine.specs.Collector.{survey, collector_turn}
 use Rattle.machine.specs.Machine.{row_of, put_record, write, collect, Turn, writer, collector, turn}
 use Rattle.machine.specs.declared.Row.{Row}
 use Rattle.machine.specs.declared.Call.{Call}
-use Rattle.machine.specs.declared.Answer.{Answer}
 use Rattle.turn.specs.Lent.{writing}
 use Rattle.turns.specs.Plain.{is_refused}
 use Rattle.turns.specs.Unchanged.{refused-idles, write-still, stage-same}
+use Rattle.machine.specs.declared.Refusal.TheVariants.{BadNumber}
+use Rattle.machine.specs.Answer.{Answered}
 
 module _ (st : Store) where
   -- an outcome that leaves the store if it is refused
-  abbrev Left : Outcome Answer → Type 0
+  abbrev Left : Outcome Answered → Type 0
   Left o = is_refused o.answer ≡ true → o.store ≡ st
 
   -- a writer's turn leaves its row, fields and colours (`write-still`, where the tests before the turn hold)
@@ -40,7 +41,7 @@ module _ (st : Store) where
   collect_left : Left (collect st)
   unfolding collect collector_turn
   collect_left = refuse-cases Left _ _ _ (λ k e. refl) (λ _.
-      refuse-cases (λ (o : Collected). Left (put_record st o)) _ ((record_ok st.rec, 2) ∷ []) _ (λ k e. refl) (λ _ e.
+      refuse-cases (λ (o : Collected). Left (put_record st o)) _ ((record_ok st.rec, BadNumber) ∷ []) _ (λ k e. refl) (λ _ e.
       let same = stage-same st.rec (survey (posted st.rec.stage) st.desk) st.fields st.colours st.rec.stage (refused-idles _ e) in
       λ i. parts (same.0 i) st.desk st.fields (same.1 i)))
 

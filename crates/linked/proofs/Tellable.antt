@@ -1,5 +1,5 @@
 -- A store in range is one that plain numbers can tell: each of its numbers fits its type.
-use Rattle.std.specs.Prelude.{ℕ, ◌<◌, ◌≡◌, ◌⊎◌, true, length}
+use Rattle.std.specs.Prelude.{ℕ, ◌<◌, ◌≡◌, ◌⊎◌, true, length, Option, Some, None}
 use Rattle.std.proofs.Common.{inl, inr, arith, ltb-true, leb-true}
 use Rattle.machine.specs.ChoiceLaws.{Hold, hold}
 use Rattle.machine.specs.Limits.{none, limits_ok, sizes_ok}
@@ -9,22 +9,21 @@ use Rattle.machine.specs.RangeLaws.{row-job}
 use Rattle.machine.specs.Machine.{row_of}
 use Rattle.machine.specs.declared.Record.{Record}
 use Rattle.machine.specs.declared.Row.{Row}
-use Rattle.machine.specs.declared.Job.{Job}
-use Rattle.machine.specs.declared.Job.TheVariants.{Idle, Busy}
 use Rattle.machine.specs.declared.Work.TheVariants.{Answering, Storing, Creating}
 use Rattle.runs.specs.Abs.{Eight}
 use Rattle.runs.specs.Range.{numbers_ok, InRange}
 use Rattle.turns.specs.Fits.{JobFits, RowFits, RecordFits}
 use Rattle.turns.proofs.PlainLaws.{small}
 use Rattle.linked.specs.Tellable.{Tellable}
+use Rattle.machine.specs.declared.Work.{Work}
 
 -- ---- a row: its job's numbers, and all of it
-job-fits : (n : ℕ) (j : Job) → job_ok n j ≡ true → JobFits j
+job-fits : (n : ℕ) (j : Option Work) → job_ok n j ≡ true → JobFits j
 unfolding job_ok work_ok stored_ok made_ok
-job-fits n Idle e = tt
-job-fits n (Busy (Answering k)) e = omega (arith, leb-true k 8 e)
-job-fits n (Busy (Storing s p)) e = omega (arith, ltb-true s.field 4 (hold _ e).1.0)
-job-fits n (Busy (Creating m)) e = omega (arith, ltb-true m.slot 8 (hold _ e).0)
+job-fits n None e = tt
+job-fits n (Some (Answering k)) e = omega (arith, leb-true k 8 e)
+job-fits n (Some (Storing s p)) e = omega (arith, ltb-true s.field 4 (hold _ e).1.0)
+job-fits n (Some (Creating m)) e = omega (arith, ltb-true m.slot 8 (hold _ e).0)
 
 row_fits : (n : ℕ) (row : Row) → row_ok n row ≡ true → length row.slots ≡ 8 → RowFits row
 unfolding row_ok status_ok

@@ -1,10 +1,10 @@
 -- Turns made by the exported calls.
 use Rattle.std.specs.Prelude.{ℕ, ◌≡◌, List, [], ◌∷◌}
 use Rattle.machine.specs.Machine.{Turn, writer, collector}
-use Rattle.turns.specs.Calls.{Lent, Result, result_of, write_by, collect_by}
+use Rattle.turns.specs.Calls.{Lent, Reply, result_of, write_by, collect_by}
 
 -- what the contract of the exported call for this turn says: writer w's calls, and the collector's
-abbrev pub turn_by : Turn → Lent → Result
+abbrev pub turn_by : Turn → Lent → Reply
 turn_by (writer w call) = write_by w call
 turn_by collector = collect_by
 

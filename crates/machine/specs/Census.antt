@@ -1,13 +1,13 @@
 -- "Census answers six counts: free, white, gray, black, held, floating. It changes nothing."
-use Rattle.std.specs.Prelude.{ℕ, zero, suc, ◌+◌, ◌-◌, ◌*◌, ◌<◌, ◌≡◌, ◌≢◌, ◌⊎◌, List, [], ◌∷◌, ◌++◌, length, eqb}
+use Rattle.std.specs.Prelude.{ℕ, zero, suc, ◌+◌, ◌-◌, ◌*◌, ◌<◌, ◌≡◌, ◌≢◌, ◌⊎◌, List, [], ◌∷◌, ◌++◌, length, eqb, Result, Ok, Err}
 use Rattle.machine.specs.Choice.{pick, all, refuse}
 use Rattle.machine.specs.Range.{record_ok, row_ok, value_ok, colour_ok}
 use Rattle.machine.specs.Parts.{field_of, colour_of, with_colour}
 use Rattle.machine.specs.Store.{Store, Outcome, outcome, fits_record}
 use Rattle.machine.specs.declared.Row.{Row}
 use Rattle.machine.specs.declared.Counts.{Counts}
-use Rattle.machine.specs.declared.Report.{Report}
-use Rattle.machine.specs.declared.Report.TheVariants.{Counted, Refused}
+use Rattle.machine.specs.declared.Refusal.{Refusal}
+use Rattle.machine.specs.declared.Refusal.TheVariants.{BadSize, BadNumber}
 
 -- v stands in the list
 abbrev pub In : ℕ → List ℕ → Type 0
@@ -76,13 +76,13 @@ counts st = record {
 }
 
 -- "refusal 1 comes first, then 2 if anything in the four lent parts is out of range"
-unfoldable pub census : Store → Outcome Report
+unfoldable pub census : Store → Outcome (Result Counts Refusal)
 census st =
-    refuse (λ k. outcome (Refused k) st)
-    ((fits_record st, 1)
-    ∷ (record_ok st.rec, 2)
-    ∷ (all (row_ok st.rec.n) st.desk, 2)
-    ∷ (all (value_ok st.rec.n) st.fields, 2)
-    ∷ (all colour_ok st.colours, 2)
+    refuse (λ k. outcome (Err k) st)
+    ((fits_record st, BadSize)
+    ∷ (record_ok st.rec, BadNumber)
+    ∷ (all (row_ok st.rec.n) st.desk, BadNumber)
+    ∷ (all (value_ok st.rec.n) st.fields, BadNumber)
+    ∷ (all colour_ok st.colours, BadNumber)
     ∷ [])
-    (outcome (Counted (counts st)) st)
+    (outcome (Ok (counts st)) st)

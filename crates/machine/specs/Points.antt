@@ -1,6 +1,6 @@
 -- "Points on both sides": every point marked ◆, and runs that the "Shortcuts that lose a keyframe" would change, as one list under one
 -- statement about the machine's definition. The machine is computed; only the lengths of lent parts are premises.
-use Rattle.std.specs.Prelude.{ℕ, ◌*◌, ◌≡◌, refl, List, [], ◌∷◌, ◌++◌, Bool, true, false, length, replicate}
+use Rattle.std.specs.Prelude.{ℕ, ◌*◌, ◌≡◌, refl, List, [], ◌∷◌, ◌++◌, Bool, true, false, length, replicate, Err, Ok}
 use Rattle.std.proofs.Common.{eq-eqb}
 use Rattle.machine.specs.Choice.{pick, all, every, refuse}
 use Rattle.machine.specs.Limits.{limits_ok, lengths_ok, sizes_ok}
@@ -19,8 +19,9 @@ use Rattle.machine.specs.Collector.{has_status, survey, opening, waiting, markin
 use Rattle.machine.specs.Machine.{write, collect, Turn, writer, collector, turn, row_of}
 use Rattle.machine.specs.Run.{run, answers, working_turns, C}
 use Rattle.machine.specs.declared.Call.{Call}
-use Rattle.machine.specs.declared.Answer.{Answer}
-use Rattle.machine.specs.declared.Answer.TheVariants.{Done, More, Worked, Waited, Refused}
+use Rattle.machine.specs.Answer.{Answered}
+use Rattle.machine.specs.declared.Answer.TheVariants.{Done, More, Worked, Waited}
+use Rattle.machine.specs.declared.Refusal.TheVariants.{BadSize, NoSuch, Busy, NoTurn}
 
 infixr 20 ◌also◌
 -- `starts n g m a`: start with these numbers, lent parts of the right lengths, answers a.
@@ -30,10 +31,10 @@ infixr 20 ◌also◌
 -- `takes cells before stage status turns says colours`: in this stage and at this status of the writer, these turns give these
 -- answers, and then the colours are these.
 pub data Point : Type 0 where
-  starts : (n g m : ℕ) → Answer → Point
+  starts : (n g m : ℕ) → Answered → Point
   bound : (n g c : ℕ) → Point
   cycle : (cells : ℕ) (before turns : List Turn) (k : ℕ) (colours : List ℕ) → Point
-  takes : (cells : ℕ) (before : List Turn) (stage status : ℕ) (turns : List Turn) (says : List Answer) (colours : List ℕ) → Point
+  takes : (cells : ℕ) (before : List Turn) (stage status : ℕ) (turns : List Turn) (says : List Answered) (colours : List ℕ) → Point
 
 abbrev pub Lent : ℕ → ℕ → Store → Type 0
 Lent n m st = (length st.desk ≡ m) × (length st.fields ≡ n * 4) × (length st.colours ≡ n)
@@ -59,7 +60,7 @@ cycled st turns = record {
 pub record Took : Type 0 where
   pub stage : ℕ
   pub status : ℕ
-  pub says : List Answer
+  pub says : List Answered
   pub colours : List ℕ
 
 abbrev pub took : Store → List Turn → Took
@@ -119,21 +120,21 @@ collects k = replicate k collector
 -- ---- the points marked ◆
 abbrev pub marked : List Point
 marked =
-    starts 4096 16 8 Done
-    ∷ starts 0 1 1 (Refused 1)
-    ∷ starts 4097 1 1 (Refused 1)
+    starts 4096 16 8 (Ok Done)
+    ∷ starts 0 1 1 (Err BadSize)
+    ∷ starts 4097 1 1 (Err BadSize)
     ∷ cycle 1 [] (traced ++ collects 17) 20 (1 ∷ [])
     ∷ bound 1 1 20
     ∷ cycle 2 (creates ++ drops) (traced ++ collects 20) 23 (1 ∷ 0 ∷ [])
     ∷ cycle 2 creates (traced ++ drops ++ collects 29) 32 (1 ∷ 1 ∷ [])
     ∷ cycle 2 (creates ++ traced ++ drops ++ collects 29) (traced ++ collects 20) 23 (1 ∷ 0 ∷ [])
-    ∷ takes 1 (pages ++ opened) 1 1 (stores ++ nexts 4) (More ∷ More ∷ More ∷ More ∷ Done ∷ []) (2 ∷ [])
-    ∷ takes 1 (pages ++ traced ++ collects 2) 4 0 (stores ++ nexts 3) (More ∷ More ∷ More ∷ Done ∷ []) (2 ∷ [])
-    ∷ takes 1 pages 0 0 (stores ++ nexts 1) (More ∷ Done ∷ []) (1 ∷ [])
-    ∷ takes 1 [] 0 0 (asks Call.Answer ∷ []) (Refused 5 ∷ []) (1 ∷ [])
-    ∷ takes 1 asked 3 2 (asks Call.Answer ∷ nexts 9) (replicate 9 More ++ Done ∷ []) (1 ∷ [])
-    ∷ takes 1 (pages ++ stores) 0 0 (asks (Call.Read 0 4 0) ∷ []) (Refused 3 ∷ []) (1 ∷ [])
-    ∷ takes 1 [] 0 0 drops (Done ∷ []) (1 ∷ [])
+    ∷ takes 1 (pages ++ opened) 1 1 (stores ++ nexts 4) (Ok More ∷ Ok More ∷ Ok More ∷ Ok More ∷ Ok Done ∷ []) (2 ∷ [])
+    ∷ takes 1 (pages ++ traced ++ collects 2) 4 0 (stores ++ nexts 3) (Ok More ∷ Ok More ∷ Ok More ∷ Ok Done ∷ []) (2 ∷ [])
+    ∷ takes 1 pages 0 0 (stores ++ nexts 1) (Ok More ∷ Ok Done ∷ []) (1 ∷ [])
+    ∷ takes 1 [] 0 0 (asks Call.Answer ∷ []) (Err NoTurn ∷ []) (1 ∷ [])
+    ∷ takes 1 asked 3 2 (asks Call.Answer ∷ nexts 9) (replicate 9 (Ok More) ++ Ok Done ∷ []) (1 ∷ [])
+    ∷ takes 1 (pages ++ stores) 0 0 (asks (Call.Read 0 4 0) ∷ []) (Err NoSuch ∷ []) (1 ∷ [])
+    ∷ takes 1 [] 0 0 drops (Ok Done ∷ []) (1 ∷ [])
     ∷ []
 
 -- ---- a run that each shortcut would change, in 01's order (ending the scan early changes the cycles above)
@@ -147,21 +148,21 @@ cuts = asks (Call.Store 1 0 7) ∷ []
 
 abbrev pub shortcuts : List Point
 shortcuts =
-    takes 1 opened 1 1 (collects 2) (Worked ∷ Waited ∷ []) (1 ∷ [])
-    ∷ takes 2 (collects 1) 1 0 creates (More ∷ More ∷ Done ∷ []) (1 ∷ 1 ∷ [])
-    ∷ takes 2 (traced ++ collects 2) 4 0 creates (More ∷ More ∷ Done ∷ []) (2 ∷ 3 ∷ [])
-    ∷ takes 2 (links ++ opened) 1 1 (cuts ++ nexts 4) (More ∷ More ∷ More ∷ More ∷ Done ∷ []) (1 ∷ 2 ∷ [])
-    ∷ takes 2 (links ++ traced ++ collects 2) 4 0 (cuts ++ nexts 3) (More ∷ More ∷ More ∷ Done ∷ []) (2 ∷ 2 ∷ [])
-    ∷ takes 1 (pages ++ stores ++ collects 1) 1 0 (collector ∷ asks Call.Answer ∷ []) (Waited ∷ Refused 4 ∷ []) (1 ∷ [])
-    ∷ takes 1 (asked ++ asks Call.Answer ∷ nexts 8) 3 2 (collects 2) (Worked ∷ Waited ∷ []) (2 ∷ [])
+    takes 1 opened 1 1 (collects 2) (Ok Worked ∷ Ok Waited ∷ []) (1 ∷ [])
+    ∷ takes 2 (collects 1) 1 0 creates (Ok More ∷ Ok More ∷ Ok Done ∷ []) (1 ∷ 1 ∷ [])
+    ∷ takes 2 (traced ++ collects 2) 4 0 creates (Ok More ∷ Ok More ∷ Ok Done ∷ []) (2 ∷ 3 ∷ [])
+    ∷ takes 2 (links ++ opened) 1 1 (cuts ++ nexts 4) (Ok More ∷ Ok More ∷ Ok More ∷ Ok More ∷ Ok Done ∷ []) (1 ∷ 2 ∷ [])
+    ∷ takes 2 (links ++ traced ++ collects 2) 4 0 (cuts ++ nexts 3) (Ok More ∷ Ok More ∷ Ok More ∷ Ok Done ∷ []) (2 ∷ 2 ∷ [])
+    ∷ takes 1 (pages ++ stores ++ collects 1) 1 0 (collector ∷ asks Call.Answer ∷ []) (Ok Waited ∷ Err Busy ∷ []) (1 ∷ [])
+    ∷ takes 1 (asked ++ asks Call.Answer ∷ nexts 8) 3 2 (collects 2) (Ok Worked ∷ Ok Waited ∷ []) (2 ∷ [])
     ∷ []
 
 -- with lent parts of the right lengths, start goes by its numbers alone
-lent-start : (n g m : ℕ) (st : Store) → Lent n m st → (start n g m st).answer ≡ pick (limits_ok n g m) Done (Refused 1)
+lent-start : (n g m : ℕ) (st : Store) → Lent n m st → (start n g m st).answer ≡ pick (limits_ok n g m) (Ok Done) (Err BadSize)
 unfolding start fits sizes_ok lengths_ok every refuse
 lent-start n g m st l = go (limits_ok n g m)
   where
-    go : (b : Bool) → (refuse (refusing st) ((pick b (lengths_ok n m (length st.desk) (length st.fields) (length st.colours)) false, 1) ∷ []) (outcome Done (fresh n g m))).answer ≡ pick b Done (Refused 1)
+    go : (b : Bool) → (refuse (refusing st) ((pick b (lengths_ok n m (length st.desk) (length st.fields) (length st.colours)) false, BadSize) ∷ []) (outcome (Ok Done) (fresh n g m))).answer ≡ pick b (Ok Done) (Err BadSize)
     go true = rw (eq-eqb _ _ l.1, eq-eqb _ _ l.2, eq-eqb _ _ l.0, refuse, lengths_ok, every) refl
     go false = refl
 

@@ -1,12 +1,13 @@
 -- The four lent parts, what a call makes of them, and start.
-use Rattle.std.specs.Prelude.{ℕ, ◌-◌, ◌*◌, List, [], ◌∷◌, ◌++◌, Bool, length, replicate}
+use Rattle.std.specs.Prelude.{ℕ, ◌-◌, ◌*◌, List, [], ◌∷◌, ◌++◌, Bool, length, replicate, None, Err, Ok}
 use Rattle.machine.specs.Choice.{refuse}
 use Rattle.machine.specs.Limits.{none, sizes_ok}
 use Rattle.machine.specs.declared.Record.{Record}
 use Rattle.machine.specs.declared.Row.{Row}
-use Rattle.machine.specs.declared.Job.TheVariants.{Idle}
-use Rattle.machine.specs.declared.Answer.{Answer}
-use Rattle.machine.specs.declared.Answer.TheVariants.{Done, Refused}
+use Rattle.machine.specs.Answer.{Answered}
+use Rattle.machine.specs.declared.Answer.TheVariants.{Done}
+use Rattle.machine.specs.declared.Refusal.{Refusal}
+use Rattle.machine.specs.declared.Refusal.TheVariants.{BadSize}
 
 pub record Store : Type 0 where
   pub rec : Record
@@ -26,8 +27,8 @@ abbrev pub outcome : {A : Type 0} → A → Store → Outcome A
 outcome a st = record { answer = a; store = st }
 
 -- "A refusal returns its number and nothing else changes."
-abbrev pub refusing : Store → ℕ → Outcome Answer
-refusing st k = outcome (Refused k) st
+abbrev pub refusing : Store → Refusal → Outcome Answered
+refusing st k = outcome (Err k) st
 
 -- these parts fit N, g and M as given (refusal 1)
 unfoldable pub fits : ℕ → ℕ → ℕ → Store → Bool
@@ -39,7 +40,7 @@ fits_record st = fits st.rec.n st.rec.g st.rec.m st
 
 -- "rows idle with status 0 and empty slots"
 abbrev pub fresh_row : Row
-fresh_row = record { status = 0; slots = replicate 8 none; job = Idle }
+fresh_row = record { status = 0; slots = replicate 8 none; job = None }
 
 -- "N, g and M as given, stage 0, hold none, other record numbers 0"
 abbrev pub fresh_record : ℕ → ℕ → ℕ → Record
@@ -56,5 +57,5 @@ fresh n g m = record {
 }
 
 -- "Start gives only 1."
-unfoldable pub start : ℕ → ℕ → ℕ → Store → Outcome Answer
-start n g m st = refuse (refusing st) ((fits n g m st, 1) ∷ []) (outcome Done (fresh n g m))
+unfoldable pub start : ℕ → ℕ → ℕ → Store → Outcome Answered
+start n g m st = refuse (refusing st) ((fits n g m st, BadSize) ∷ []) (outcome (Ok Done) (fresh n g m))

@@ -1,5 +1,5 @@
 -- The turns of one writer's row: next, and the call by its name.
-use Rattle.std.specs.Prelude.{ℕ, List, [], ◌∷◌}
+use Rattle.std.specs.Prelude.{ℕ, List, [], ◌∷◌, Some, None, Option}
 use Rattle.machine.specs.Choice.{refuse}
 use Rattle.machine.specs.Turns.{refused, sound_ok, Written, written}
 use Rattle.machine.specs.Slots.{page, copy, drop, read}
@@ -8,11 +8,10 @@ use Rattle.machine.specs.Storing.{store, next_storing}
 use Rattle.machine.specs.Creating.{create, next_creating}
 use Rattle.machine.specs.declared.Record.{Record}
 use Rattle.machine.specs.declared.Row.{Row}
-use Rattle.machine.specs.declared.Job.{Job}
-use Rattle.machine.specs.declared.Job.TheVariants.{Idle, Busy}
 use Rattle.machine.specs.declared.Work.{Work}
 use Rattle.machine.specs.declared.Work.TheVariants.{Answering, Storing, Creating}
 use Rattle.machine.specs.declared.Call.{Call}
+use Rattle.machine.specs.declared.Refusal.TheVariants.{BadNumber, NoTurn}
 
 -- "The others start a job or, by next, do its next turn."
 unfoldable pub next_work : Record → Row → List ℕ → List ℕ → Work → Written
@@ -21,13 +20,13 @@ next_work rec row fields colours (Storing s p) = next_storing rec.n row fields c
 next_work rec row fields colours (Creating m) = next_creating rec row fields colours m m.look
 
 -- "5: next without a job"
-unfoldable pub next_job : Record → Row → List ℕ → List ℕ → Job → Written
-next_job rec row fields colours Idle = written (refused row 5) fields colours
-next_job rec row fields colours (Busy w) = next_work rec row fields colours w
+unfoldable pub next_job : Record → Row → List ℕ → List ℕ → Option Work → Written
+next_job rec row fields colours None = written (refused row NoTurn) fields colours
+next_job rec row fields colours (Some w) = next_work rec row fields colours w
 
 unfoldable pub next : Record → Row → List ℕ → List ℕ → Written
 next rec row fields colours =
-    refuse (λ k. written (refused row k) fields colours) ((sound_ok rec row, 2) ∷ [])
+    refuse (λ k. written (refused row k) fields colours) ((sound_ok rec row, BadNumber) ∷ [])
     (next_job rec row fields colours row.job)
 
 unfoldable pub turn_of : Record → Row → List ℕ → List ℕ → Call → Written

@@ -1,7 +1,14 @@
 // The types that the machine of turns is about. The machine itself is in specs/.
 #![tactic(auto)]
 
-// The collector's record.
+ghost use Rattle.std.specs.Prelude.{◌≡◌};
+ghost use Rattle.machine.specs.Answer.{number};
+
+use std::error::Error;
+use std::fmt;
+
+// The collector's record. Stage, part and found are numbers, not enums, as a row's status is: this is lent memory, in which any number
+// may stand, and one that is out of range is refused.
 #[derive(Clone, Copy)]
 pub struct Record {
     pub n: u16,
@@ -62,18 +69,12 @@ pub enum Work {
     Creating(Made),
 }
 
-#[derive(Clone, Copy)]
-pub enum Job {
-    Idle,
-    Busy(Work),
-}
-
-// A writer's row of the desk.
+// A writer's row of the desk. An idle writer has no job.
 #[derive(Clone, Copy)]
 pub struct Row {
     pub status: u8,
     pub slots: [u16; 8],
-    pub job: Job,
+    pub job: Option<Work>,
 }
 
 // A writer's call, with the numbers that follow the writer's own: Page(p, s), Copy(r, s), Drop(r), Read(r, f, s),
@@ -90,17 +91,56 @@ pub enum Call {
     Next,
 }
 
-// What a call answers. `More`: the job is unfinished.
-#[derive(Clone, Copy)]
+// What a call answers that is not refused. `More`: the job is unfinished.
+#[derive(Clone, Copy, Debug, PartialEq, Eq)]
 pub enum Answer {
     Done,
     More,
     Worked,
     Waited,
-    Refused(u8),
 }
 
-// What a census counts, and what it answers.
+impl fmt::Display for Answer {
+    fn fmt<W: fmt::Write>(&self, f: &mut fmt::Formatter<W>) -> fmt::Result {
+        match self {
+            Answer::Done => write!(f, "done"),
+            Answer::More => write!(f, "more"),
+            Answer::Worked => write!(f, "worked"),
+            Answer::Waited => write!(f, "waited"),
+        }
+    }
+}
+
+// Why a call is refused, each with its number.
+#[derive(Clone, Copy, Debug, PartialEq, Eq)]
+pub enum Refusal {
+    BadSize = 1,
+    BadNumber = 2,
+    NoSuch = 3,
+    Busy = 4,
+    NoTurn = 5,
+    EmptySlot = 6,
+    Full = 7,
+    Unreadable = 8,
+}
+
+impl Refusal {
+    pub fn number(self) -> u8
+        ensures { result ≡ number self }
+    {
+        self as u8
+    }
+}
+
+impl fmt::Display for Refusal {
+    fn fmt<W: fmt::Write>(&self, f: &mut fmt::Formatter<W>) -> fmt::Result {
+        write!(f, "refused {}", self.number())
+    }
+}
+
+impl Error for Refusal {}
+
+// What a census counts.
 #[derive(Clone, Copy)]
 pub struct Counts {
     pub free: u16,
@@ -111,37 +151,16 @@ pub struct Counts {
     pub floating: u16,
 }
 
-#[derive(Clone, Copy)]
-pub enum Report {
-    Counted(Counts),
-    Refused(u8),
-}
-
-// A writer's turn by value: the answer, and the row after it.
+// A writer's turn that is not refused: the answer, and the row after it.
 #[derive(Clone, Copy)]
 pub struct WriterTurn {
     pub answer: Answer,
     pub row: Row,
 }
 
-// A collector's turn by value: the answer, and the record after it.
+// A collector's turn that is not refused: the answer, and the record after it.
 #[derive(Clone, Copy)]
 pub struct CollectorTurn {
     pub answer: Answer,
     pub rec: Record,
-}
-
-// What a look for the lowest free cell finds: a free cell; none; a byte above 3 before any.
-#[derive(Clone, Copy)]
-pub enum Room {
-    Free(u16),
-    Full,
-    Bad,
-}
-
-// What a waiting test finds in the statuses of all rows: each is in range; each is the posted number.
-#[derive(Clone, Copy)]
-pub struct Survey {
-    pub fit: bool,
-    pub same: bool,
 }

@@ -10,7 +10,7 @@ ghost use Rattle.moves.specs.Bound.{c_max};
 pub fn cycle_bound(n: u16, g: u16) -> u64
     ensures { result ≡ c_max n g }
 {
-    let cells: u64 = n as u64;
-    let pages: u64 = g as u64;
+    let cells = u64::from(n);
+    let pages = u64::from(g);
     (cells + 1) * (cells + 1) + 10 * cells + pages + 5
 }

@@ -3,11 +3,13 @@ use Prim.Native.Nat.{ℕ, ◌+◌}
 use mathlib.Core.Path.{◌≡◌, refl}
 use mathlib.Core.Bool.{Bool, true, false}
 use mathlib.Core.List.{List, [], ◌∷◌}
+use Rattle.std.specs.Prelude.{Option, Some, None}
 use Rattle.machine.specs.Choice.{pick}
 use Rattle.machine.specs.Limits.{limits_ok}
+use Rattle.machine.specs.declared.Refusal.TheVariants.{BadSize}
 use Rattle.lines.specs.Lines.{line_of}
 use Rattle.lines.specs.declared.Line.{Line}
-use Rattle.player.specs.Game.{Game, Step, step, refusal, line_step}
+use Rattle.player.specs.Game.{Game, Step, refused, line_step}
 use Rattle.player.specs.Play.{lines_from, play_lines, play_text}
 
 -- the same game, or neither has begun
@@ -19,20 +21,20 @@ abbrev Steps : Step → Step → Type 0
 Steps s t = (s.said ≡ t.said) × Twin s.game t.game
 
 module _ (g h : Game) (p : g.started ≡ false) (q : h.started ≡ false) where
-  barred : (a b : Bool) (s t : Step) → a ≡ false → b ≡ false → Steps (pick a s (step (refusal 1) g)) (pick b t (step (refusal 1) h))
+  barred : (a b : Bool) (s t : Step) → a ≡ false → b ≡ false → Steps (pick a s (refused BadSize g)) (pick b t (refused BadSize h))
   barred a b s t e f = rw (e, f) (refl, neither p q)
 
-  begun : (b : Bool) (s : Step) → Steps (pick b s (step (refusal 1) g)) (pick b s (step (refusal 1) h))
+  begun : (b : Bool) (s : Step) → Steps (pick b s (refused BadSize g)) (pick b s (refused BadSize h))
   begun true s = (refl, equal)
   begun false s = (refl, neither p q)
 
-  steps : (l : Line) → Steps (line_step g l) (line_step h l)
+  steps : (l : Option Line) → Steps (line_step g l) (line_step h l)
   unfolding line_step
-  steps Line.Unreadable = (refl, neither p q)
-  steps (Line.Start n k m) = begun (limits_ok n k m) _
-  steps (Line.Write w call) = barred g.started h.started _ _ p q
-  steps Line.Collect = barred g.started h.started _ _ p q
-  steps Line.Census = barred g.started h.started _ _ p q
+  steps None = (refl, neither p q)
+  steps (Some (Line.Start n k m)) = begun (limits_ok n k m) _
+  steps (Some (Line.Write w call)) = barred g.started h.started _ _ p q
+  steps (Some Line.Collect) = barred g.started h.started _ _ p q
+  steps (Some Line.Census) = barred g.started h.started _ _ p q
 
 lines : (ls : List (List ℕ)) (k : ℕ) (g h : Game) → Twin g h → play_lines g k ls ≡ play_lines h k ls
 unfolding play_lines

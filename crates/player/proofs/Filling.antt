@@ -1,24 +1,22 @@
--- A line from byte to byte.
-use Prim.Native.Nat.{ℕ, ◌+◌, ◌<◌, ◌≤◌}
+-- A line, filled from the parts of chunks.
+use Prim.Native.Nat.{ℕ, suc, ◌+◌, ◌-◌, ◌<◌}
 use mathlib.Core.Path.{◌≡◌, refl, sym, ◌∙◌}
 use mathlib.Core.Bool.{Bool, true, false}
-use mathlib.Core.List.{List, [], ◌∷◌, ◌++◌}
-use native.Mathlib.Numerals.{add-one}
+use mathlib.Core.List.{List, [], ◌∷◌, ◌++◌, append_assoc, append-nil}
 use native.Mathlib.Omega.{arith}
 use borrow.Author.Tests.{ne_eqb, lt-ltb}
 use lib.Dec.{eqb}
-use lib.ListN.{length, get_or, take, drop, set, length-append, length-take}
-use lib.Seq.{take-suc-set}
-use Rattle.cells.proofs.Looping.{drop-step}
+use lib.ListN.{length, take, length-append}
+use lib.Seq.{length-take-le, take_all}
+use Rattle.std.proofs.Common.{eq-zero-or-pos, inl, inr, min, ◌≢◌, All}
+use Rattle.std.specs.Prelude.{None}
 use Rattle.machine.specs.Choice.{pick}
 use Rattle.lines.specs.Lines.{line_of}
-use Rattle.lines.specs.declared.Line.TheVariants.{Unreadable}
 use Rattle.player.specs.Game.{Game}
 use Rattle.player.specs.Play.{last_line, lines_from, play_lines}
-use Rattle.player.specs.Fill.{Alike}
 
 -- lines of more than 64 bytes say the same
-long_is : (a : List ℕ) → 64 < length a → line_of a ≡ Unreadable
+long_is : (a : List ℕ) → 64 < length a → line_of a ≡ None
 unfolding line_of
 long_is a h = rw (lt-ltb 64 (length a) h) refl
 
@@ -48,28 +46,23 @@ long [] a c g k h l =
     rw (last_cons a z, last_cons c w) (same_line g k a c [] (long_is a h ∙ sym (long_is c l)))
 long (b ∷ bs) a c g k h l = long_byte (eqb b 10) b bs a c g k h l (long bs (a ++ b ∷ []) (c ++ b ∷ []) g k (snoc_long a b h) (snoc_long c b l))
 
--- a byte that is not 10: it is kept where there is room, and else the line is long already
-module _ (line : List ℕ) (len b : ℕ) (rest : List ℕ) (size : length line ≡ 65) (other : b ≡ 10 → ⊥) where
-  pub kept : len < 65 → Alike (take (len + 1) (set line len b)) rest (take len line) (b ∷ rest)
-  unfolding lines_from
-  kept h g k =
-      let i : len < length line = omega arith in
-      rw (ne_eqb b 10 other, add-one len, take-suc-set line len b i) refl
+-- bytes that are no line's end are all of one line
+one_line : (bs rest acc : List ℕ) → All (λ b. b ≢ 10) bs → lines_from acc (bs ++ rest) ≡ lines_from (acc ++ bs) rest
+unfolding lines_from
+one_line [] rest acc h = rw append-nil refl
+one_line (b ∷ bs) rest acc h =
+    rw (ne_eqb b 10 (h 0 0 (omega arith))) (one_line bs rest (acc ++ b ∷ []) (λ k d l. h (suc k) d (omega arith)) ∙ rw append_assoc refl)
 
-  pub lost : 65 ≤ len → Alike (take len line) rest (take len line) (b ∷ rest)
-  unfolding lines_from
-  lost h g k =
-      let l : 64 < length (take len line) = rw (length-take len line) (omega arith) in
-      rw (ne_eqb b 10 other) (long rest (take len line) (take len line ++ b ∷ []) g k l (snoc_long (take len line) b l))
-
-module _ (a c chunk : List ℕ) (i : ℕ) (all rest : List ℕ) (in-it : i < length chunk) (so_far : Alike a (drop i chunk ++ rest) c all) where
-  split : drop i chunk ++ rest ≡ get_or chunk i 0 ∷ (drop (i + 1) chunk ++ rest)
-  split = rw (drop-step chunk i in-it) refl
-
-  -- the byte at i is the line's end
-  pub met : get_or chunk i 0 ≡ 10 → Alike a (10 ∷ (drop (i + 1) chunk ++ rest)) c all
-  met h g k = rw (← h, ← split) (so_far g k)
-
-  -- it is another, and was taken
-  pub taken : (a' : List ℕ) → ((rest : List ℕ) → Alike a' rest a (get_or chunk i 0 ∷ rest)) → Alike a' (drop (i + 1) chunk ++ rest) c all
-  taken a' e g k = e (drop (i + 1) chunk ++ rest) g k ∙ (rw (← split) (so_far g k))
+-- they are kept where there is room, and else the line is long already
+pub all_kept : (a bytes : List ℕ) (kept room : ℕ) → room + length a ≡ 65 → kept ≡ min (length bytes) room → All (λ b. b ≢ 10) bytes
+    → (rest : List ℕ) (g : Game) (k : ℕ) → play_lines g k (lines_from (a ++ take kept bytes) rest) ≡ play_lines g k (lines_from a (bytes ++ rest))
+all_kept a bytes kept room size few other rest g k =
+    let fit = length-take-le kept bytes (omega arith) in
+    rw (one_line bytes rest a other) (
+    elim (eq-zero-or-pos (length bytes - kept)) [
+      | inl z ↦ rw (take_all kept bytes (omega arith)) refl
+      | inr more ↦
+          long rest (a ++ take kept bytes) (a ++ bytes) g k
+          (rw (length-append a (take kept bytes), fit) (omega arith))
+          (rw (length-append a bytes) (omega arith))
+    ])

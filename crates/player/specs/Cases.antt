@@ -13,11 +13,10 @@ use Rattle.machine.specs.Writer.{next_work, next_job, next, turn_of}
 use Rattle.machine.specs.Machine.{write}
 use Rattle.machine.specs.Census.{pages, slots, left_over, tally, in_use, unreached, counts, census}
 use Rattle.machine.specs.Answer.{said_by, said_by_census}
-use Rattle.lines.specs.Numbers.{is_digit, value_from, number_of, digits_of, decimal}
-use Rattle.lines.specs.Fields.{fields, same}
-use Rattle.lines.specs.Lines.{args_of, with_number, args_from, line_none, line_one, line_two, line_three, line_for, command_of, line_of}
+use Rattle.lines.specs.Numbers.{value_from, number_of, digits_of, decimal}
+use Rattle.lines.specs.Lines.{numbers_of, command, command_of, line_of}
 use Rattle.lines.specs.Output.{tabbed, parted, word_text, said_text, out_line}
-use Rattle.player.specs.Game.{refusal, line_step}
+use Rattle.player.specs.Game.{line_step}
 use Rattle.player.specs.Play.{last_line, lines_from, play_lines, play_text, played}
 
 -- the paper's whole case, whose last line has no end
@@ -66,5 +65,5 @@ other_output =
 
 -- "bytes after the last such byte are a line too": the case with and without its last line's end
 pub cases : (played case_text ≡ case_output) × (played (case_text ++ 10 ∷ []) ≡ case_output) × (played other_text ≡ other_output)
-unfolding all every refuse limits_ok lengths_ok sizes_ok tracing hand place_ok part_ok value_ok hold_ok found_ok record_ok status_ok colour_ok made_ok work_ok job_ok row_ok with_slot with_job fits fresh sound_ok drop lowest_free emptied take_cell take create decided look next_creating next_work next_job next turn_of write pages slots left_over tally in_use unreached counts census said_by said_by_census is_digit value_from number_of digits_of decimal fields same args_of with_number args_from line_none line_one line_two line_three line_for command_of line_of tabbed parted word_text said_text out_line refusal line_step last_line lines_from play_lines play_text played
+unfolding all every refuse limits_ok lengths_ok sizes_ok tracing hand place_ok part_ok value_ok hold_ok found_ok record_ok status_ok colour_ok made_ok work_ok job_ok row_ok with_slot with_job fits fresh sound_ok drop lowest_free emptied take_cell take create decided look next_creating next_work next_job next turn_of write pages slots left_over tally in_use unreached counts census said_by said_by_census value_from number_of digits_of decimal numbers_of command command_of line_of tabbed parted word_text said_text out_line line_step last_line lines_from play_lines play_text played
 cases = (refl, refl, refl)

@@ -1,12 +1,12 @@
 -- What a text is answered with.
-use Rattle.std.specs.Prelude.{ℕ, ◌+◌, ◌≤◌, ◌≡◌, List, [], ◌∷◌, ◌++◌, leb, eqb, length, take}
+use Rattle.std.specs.Prelude.{ℕ, ◌+◌, ◌≤◌, List, [], ◌∷◌, ◌++◌, Bool, leb, eqb, length, nat_lt}
 use Rattle.machine.specs.Choice.{pick}
 use Rattle.lines.specs.Bytes.{line_end}
 use Rattle.lines.specs.Lines.{line_of}
 use Rattle.lines.specs.Output.{out_line}
 use Rattle.player.specs.Game.{Game, unstarted, line_step}
-use Rattle.player.specs.Own.{game, Room}
-use Rattle.player.specs.declared.feed.Play.{Play}
+use Rattle.player.specs.Own.{game}
+use Rattle.player.specs.declared.feed.Player.{Player}
 
 -- "bytes after the last such byte are a line too"
 unfoldable pub last_line : List ℕ → List (List ℕ)
@@ -35,13 +35,18 @@ unfoldable pub played : List ℕ → List ℕ
 played bs = play_text unstarted bs
 
 -- ---- the player between two bytes
--- what is written already, and what is still to be written when the bytes bs follow
-unfoldable pub total : List ℕ → List ℕ → List ℕ → List ℕ → Play → List ℕ → List ℕ
-total line out fields colours p bs =
-    take p.at out ++ play_lines (game p.own fields colours) p.count (lines_from (take p.len line) bs)
+-- what it has not written yet
+abbrev pub output : Player → List ℕ
+output p = p.out.items
 
--- the buffer of a line has 65 bytes: so many of a longer line are kept, which is unreadable already
-pub record Ready (line fields colours : List ℕ) (p : Play) : Type 0 where
-  pub room : Room p.own fields colours
-  pub size : length line ≡ 65
-  pub short : p.len ≤ 65
+-- there is room for an output line
+abbrev pub HasRoom : Player → Type 0
+HasRoom p = length (output p) + 77 ≤ 65536
+
+-- "After output line 4,294,967,295 the player ends."
+abbrev pub goes_on : Player → Bool
+goes_on p = nat_lt p.count 4294967295
+
+-- what is still to be written when the bytes bs follow
+unfoldable pub total : Player → List ℕ → List ℕ
+total p bs = output p ++ play_lines (game p.store) p.count (lines_from p.line.items bs)

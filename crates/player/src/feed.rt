@@ -1,171 +1,125 @@
-// The player between reads: bytes come in any cut, output lines go into a lent buffer.
-ghost use Rattle.std.specs.Prelude.{◌≡◌, List, [], ◌∷◌, ◌++◌, ℕ, ◌≤◌, ◌<◌, ◌+◌, length, take, drop, false};
-ghost use Rattle.lines.specs.Output.{Wrote, out_line};
-ghost use Rattle.player.specs.Own.{said_of, Room};
-ghost use Rattle.player.specs.Play.{total, Ready};
-ghost use Rattle.player.specs.Cut.{begins, emptied};
+// The player between reads: bytes come in any cut, output lines go into its buffer.
+ghost use Rattle.std.specs.Prelude.{◌≡◌, ◌≢◌, ◌≤◌, ◌<◌, ℕ, List, [], ◌∷◌, ◌++◌, drop, length, All};
+ghost use Rattle.player.specs.Play.{output, HasRoom, goes_on, total};
+ghost use Rattle.player.specs.Cut.{Begins, Emptied};
 
-use crate::fill::fill_line;
-use crate::step::{Own, Reply, line_step};
-use cells::NONE;
-use lines::{parse_line, put_answer, put_report};
-use machine::{Job, Record, Row};
+use crate::store::OwnStore;
+use arrayvec::ArrayVec;
+use lines::{LONGEST, parse_line, put_reply};
 
-#[derive(Clone, Copy)]
-pub struct Play {
-    // bytes of the line so far, at most 65: a longer line is unreadable
-    pub len: usize,
-    // bytes in the output buffer
-    pub at: usize,
+#[derive(Drop)]
+pub struct Player {
+    store: OwnStore,
+    // the bytes of the line so far, or 65 of a longer one, which is unreadable
+    line: ArrayVec<u8, 65>,
+    // output lines that are not written yet
+    out: ArrayVec<u8, 65536>,
     // lines answered
-    pub count: u32,
-    pub own: Own,
+    count: u32,
 }
 
-#[derive(Clone, Copy)]
-pub struct Fed {
-    // the place in the chunk of the next byte
-    pub next: usize,
-    pub play: Play,
-}
-
-// Before any start: N is 0, so no part of the store is lent.
-pub fn unstarted() -> Play
-    ensures { (result ≡ begins result.own) × (result.own.started ≡ false) × (result.own.rec.n ≡ 0) }
-{
-    let row = Row {
-        status: 0,
-        slots: [NONE; 8],
-        job: Job::Idle,
-    };
-    Play {
-        len: 0,
-        at: 0,
-        count: 0,
-        own: Own {
-            started: false,
-            rec: Record {
-                n: 0,
-                g: 0,
-                m: 0,
-                stage: 0,
-                place: 0,
-                part: 0,
-                hold: NONE,
-                found: 0,
-                count: 0,
-            },
-            rows: [row; 8],
-        },
-    }
-}
-
-// The output was written from its buffer, which is empty again.
-pub fn emptied(p: Play) -> Play
-    ensures { result ≡ emptied p }
-{
-    let own = p.own;
-    Play {
-        len: p.len,
-        at: 0,
-        count: p.count,
-        own: own,
-    }
-}
-
-fn put_reply(out: &mut [u8], at: usize, number: u32, reply: Reply) -> usize
-    requires { at + 77 ≤ length out.old }
-    ensures wrote { Wrote out.old out.new at result (out_line number (said_of reply)) }
-    ensures upper_bound { result ≤ at + 77 }
-{
-    match reply {
-        Reply::Called(a) => put_answer(out, at, number, a),
-        Reply::Counted(a) => put_report(out, at, number, a),
-    }
-}
-
-// The line is at its end.
-fn end_line(line: &[u8], out: &mut [u8], fields: &mut [u16], colours: &mut [u8], p: Play) -> Play
-    requires ready { Ready line.now fields.old colours.old p }
-    requires at_in_bounds { p.at + 77 ≤ length out.old }
-    ensures len_value { (result.len ≡ 0) × (result.at ≤ p.at + 77) × Room result.own fields.new colours.new }
-    ensures by_index { (rest : List ℕ) → total line.now out.new fields.new colours.new result rest
-        ≡ total line.now out.old fields.old colours.old p (10 ∷ rest) }
-{
-    let count = p.count;
-    let own = p.own;
-    let at = p.at;
-    if 4294967295 <= count {
-        return Play {
-            len: 0,
-            at: at,
-            count: count,
-            own: own,
-        };
-    }
-    let len = p.len;
-    let l = parse_line(&line[..len]);
-    let t = line_step(own, fields, colours, l);
-    let reply = t.reply;
-    let next = t.own;
-    let n = count + 1;
-    let e = put_reply(out, at, n, reply);
-    Play {
-        len: 0,
-        at: e,
-        count: n,
-        own: next,
-    }
-}
-
-// The bytes of a chunk from `from` on, until it is at its end or the output buffer is nearly full.
-pub fn take_bytes(
-    chunk: &[u8],
-    from: usize,
-    line: &mut [u8],
-    out: &mut [u8],
-    fields: &mut [u16],
-    colours: &mut [u8],
-    start: Play,
-) -> Fed
-    requires ready { Ready line.old fields.old colours.old start }
-    requires in_bounds { 77 ≤ length out.old }
-    requires from_in_bounds { from ≤ length chunk.now }
-    ensures from_le_next { (from ≤ result.next) × (result.next ≤ length chunk.now) × Ready line.new fields.new colours.new result.play }
-    ensures by_index { (rest : List ℕ) → total line.new out.new fields.new colours.new result.play (drop result.next chunk.now ++ rest)
-        ≡ total line.old out.old fields.old colours.old start (drop from chunk.now ++ rest) }
-    ensures at_in_bounds { start.at + 77 ≤ length out.old → (result.play.at ≤ length out.old) × (from < length chunk.now → from < result.next) }
-{
-    let most = out.len() - 77;
-    let mut p = start;
-    let mut i = from;
-    if most < p.at {
-        return Fed { next: i, play: p };
-    }
-    while i < chunk.len() {
-        let f = fill_line(chunk, i, line, p.len);
-        i = f.next;
-        p.len = f.len;
-        if !f.ended {
-            return Fed { next: i, play: p };
-        }
-        p = end_line(line, out, fields, colours, p);
-        if most < p.at {
-            return Fed { next: i, play: p };
+impl Player {
+    // Before any start.
+    pub fn new() -> Player
+        ensures { Begins result }
+    {
+        Player {
+            store: OwnStore::new(),
+            line: ArrayVec::new(),
+            out: ArrayVec::new(),
+            count: 0,
         }
     }
-    Fed { next: i, play: p }
-}
 
-// The text is at its end.
-pub fn finish(line: &[u8], out: &mut [u8], fields: &mut [u16], colours: &mut [u8], p: Play) -> Play
-    requires ready { Ready line.now fields.old colours.old p }
-    requires at_in_bounds { p.at + 77 ≤ length out.old }
-    ensures { (result.len ≡ 0) × (result.at ≤ p.at + 77) × (take result.at out.new ≡ total line.now out.old fields.old colours.old p []) }
-{
-    let len = p.len;
-    if len == 0 {
-        return p;
+    // More bytes of a line: of a longer one 65 are kept.
+    #[tactic(auto, using(crate::proofs::Plays::kept))]
+    fn keep(&mut self, bytes: &[u8])
+        requires { All (λ b. b ≢ 10) bytes.now }
+        ensures out { self.new.out ≡ self.old.out }
+        ensures text { (rest : List ℕ) → total self.new rest ≡ total self.old (bytes.now ++ rest) }
+    {
+        let kept = bytes.len().min(self.line.remaining_capacity());
+        self.line.try_extend_from_slice(&bytes[..kept]).unwrap();
     }
-    end_line(line, out, fields, colours, p)
+
+    // The line is at its end.
+    #[tactic(auto, using(crate::proofs::Plays::answered, crate::proofs::Plays::unanswered))]
+    fn end_line(&mut self)
+        requires { HasRoom self.old }
+        ensures line { self.new.line.items ≡ [] }
+        ensures text { (rest : List ℕ) → total self.new rest ≡ total self.old (10 ∷ rest) }
+    {
+        let line = parse_line(&self.line);
+        self.line.clear();
+        if self.goes_on() {
+            self.count += 1;
+            let reply = self.store.play(line);
+            put_reply(&mut self.out, self.count, reply);
+        }
+    }
+
+    // The bytes of a chunk until a line's end, which is played, or the chunk's: how many there are.
+    fn take_line(&mut self, chunk: &[u8]) -> usize
+        requires { HasRoom self.old }
+        ensures some { 0 < length chunk.now → 0 < result }
+        ensures bound { result ≤ length chunk.now }
+        ensures text { (rest : List ℕ) → total self.new (drop result chunk.now ++ rest) ≡ total self.old (chunk.now ++ rest) }
+    {
+        match chunk.iter().position(|b| *b == b'\n') {
+            Some(end) => {
+                self.keep(&chunk[..end]);
+                self.end_line();
+                end + 1
+            }
+            None => {
+                self.keep(chunk);
+                chunk.len()
+            }
+        }
+    }
+
+    // Plays bytes of a chunk, until it is at its end or the output buffer is nearly full: how many there are.
+    pub fn feed(&mut self, chunk: &[u8]) -> usize
+        ensures some { HasRoom self.old → 0 < length chunk.now → 0 < result }
+        ensures bound { result ≤ length chunk.now }
+        ensures text { (rest : List ℕ) → total self.new (drop result chunk.now ++ rest) ≡ total self.old (chunk.now ++ rest) }
+    {
+        let mut next = 0;
+        while next < chunk.len() && LONGEST <= self.out.remaining_capacity() {
+            next += self.take_line(&chunk[next..]);
+        }
+        next
+    }
+
+    // The text is at its end: bytes after the last line end are a line too.
+    #[tactic(auto, using(crate::proofs::Plays::no_line))]
+    pub fn finish(&mut self)
+        requires { HasRoom self.old }
+        ensures { output self.new ≡ total self.old [] }
+    {
+        if !self.line.is_empty() {
+            self.end_line();
+        }
+    }
+
+    // The output that is not written yet.
+    pub fn output(&self) -> &[u8]
+        ensures { result.now ≡ output self.now }
+    {
+        &self.out
+    }
+
+    // The output was written.
+    pub fn written(&mut self)
+        ensures { Emptied self.old self.new }
+    {
+        self.out.clear();
+    }
+
+    // Whether lines may follow: after the last output line there is none.
+    pub fn goes_on(&self) -> bool
+        ensures { result ≡ goes_on self.now }
+    {
+        self.count < u32::MAX
+    }
 }

@@ -2,7 +2,6 @@
 #![tactic(auto)]
 
 mod feed;
-mod fill;
-mod step;
+mod store;
 
-pub use feed::{Fed, Play, emptied, finish, take_bytes, unstarted};
+pub use feed::Player;

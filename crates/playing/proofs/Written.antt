@@ -1,10 +1,13 @@
 -- Parts of a run, one after another.
-use Rattle.std.proofs.Common.{◌≡◌, ℕ, ◌≤◌, nat_lt, List, [], ◌++◌, take, drop, take-append-drop, Bool, true, false, Option, None, Some, Result, Ok, Err, OnOk, OnErr, IfOk, sym, ap, ◌∙◌, append_assoc, subst}
-use Rattle.std.proofs.lemmas.List.{take-take}
+use Rattle.std.proofs.Common.{◌≡◌, ℕ, ◌-◌, List, [], ◌++◌, length, take, drop, length-drop, take-append-drop, take_all, arith, Bool, true, false, Option, None, Some, Result, Ok, Err, OnOk, OnErr, IfOk, sym, ap, ◌∙◌, append_assoc, subst}
 use Rattle.std.proofs.lemmas.Bool.{ltb-false}
 use Rattle.std.specs.Bool.{MatchBool}
 use Rattle.std.specs.Io.KnownBytes.{Appends, Consumes, IsAtEnd}
 use Rattle.std.proofs.KnownBytes.{Appends-nil, Appends-trans, Consumes-nil, Consumes-trans}
+use Rattle.player.specs.Own.{game}
+use Rattle.player.specs.Play.{output, goes_on, lines_from, play_lines, total}
+use Rattle.player.specs.declared.feed.Player.{Player}
+use Rattle.player.proofs.Plays.{ended}
 use Rattle.playing.specs.Written.{Written, Begins, WrittenInPart, Continues, Finishes, FinishesInPart}
 
 pub nothing_written : (old : Option (List ℕ)) (f g : List ℕ → List ℕ) → ((rest : List ℕ) → f rest ≡ g rest) → Written old old f g
@@ -36,20 +39,16 @@ nothing_left None old f e = tt
 nothing_left (Some xs) old f e = subst (Appends old old) (sym (e xs)) (Appends-nil old)
 
 -- a chunk was read and played: the player goes on below its last output line
-pub chunk_played : {E : Type 0} (r : Result Bool E) (count : ℕ) (l m a b : Option (List ℕ)) (f g : List ℕ → List ℕ) (bs : List ℕ)
-    → Consumes l m bs → OnOk r (Written a b (λ rest. f (bs ++ rest)) g) → IfOk r (λ more. more ≡ nat_lt count 4294967295)
-    → (4294967295 ≤ count → (rest : List ℕ) → g rest ≡ [])
-    → IfOk r (λ more. MatchBool more (Continues l m a b f g) (Finishes l a b f))
-chunk_played (Err e) count l m a b f g bs took wrote more ended = tt
-chunk_played (Ok true) count l m a b f g bs took wrote more ended = (bs, took, wrote)
-chunk_played (Ok false) count l m a b f g bs took wrote more ended =
-    Continues-Finishes l m a b b f g (bs, took, wrote) (nothing_left m b g (ended (ltb-false count 4294967295 (sym more))))
+pub chunk_played : {E : Type 0} (r : Result Bool E) (p : Player) (l m a b : Option (List ℕ)) (f : List ℕ → List ℕ) (bs : List ℕ)
+    → Consumes l m bs → OnOk r (Written a b (λ rest. f (bs ++ rest)) (total p)) → IfOk r (λ more. more ≡ goes_on p) → OnOk r (output p ≡ [])
+    → IfOk r (λ more. MatchBool more (Continues l m a b f (total p)) (Finishes l a b f))
+chunk_played (Err e) p l m a b f bs took wrote more empty = tt
+chunk_played (Ok true) p l m a b f bs took wrote more empty = (bs, took, wrote)
+chunk_played (Ok false) p l m a b f bs took wrote more empty =
+    Continues-Finishes l m a b b f (total p) (bs, took, wrote) (nothing_left m b (total p) (ended p empty (ltb-false p.count 4294967295 (sym more))))
 
-pub goes_on : (more : Bool) (P Q : Type 0) → more ≡ true → MatchBool more P Q → P
-goes_on more P Q e h = subst (λ b. MatchBool b P Q) e h
-
-pub stops : (more : Bool) (P Q : Type 0) → more ≡ false → MatchBool more P Q → Q
-stops more P Q e h = subst (λ b. MatchBool b P Q) e h
+pub continued : (more : Bool) (P Q : Type 0) → more ≡ true → MatchBool more P Q → P
+continued more P Q e h = subst (λ b. MatchBool b P Q) e h
 
 -- ---- where a read or a write failed
 
@@ -57,12 +56,23 @@ pub on_err : {T E : Type 0} {P : Type 0} (r : Result T E) → P → OnErr r P
 on_err (Ok x) h = tt
 on_err (Err e) h = h
 
--- the first k bytes of what stood in the buffer were written
-pub begins_taken : (k at : ℕ) (out xs after : List ℕ) → k ≤ at → xs ≡ take at out ++ after → Begins xs (take k out)
-begins_taken k at out xs after h e =
-    let front = take at out in
-    let seam : front ≡ take k out ++ drop k front = sym (take-append-drop k front) ∙ ap (λ l. l ++ drop k front) (take-take k at out h) in
-    (drop k front ++ after, e ∙ ap (λ l. l ++ after) seam ∙ append_assoc (take k out) (drop k front) after)
+-- what was written begins what stood in the player's buffer, and that begins what is to be written
+begins_on : (xs w front after : List ℕ) → xs ≡ front ++ after → Begins front w → Begins xs w
+begins_on xs w front after e (more, h) = (more ++ after, e ∙ ap (λ l. l ++ after) h ∙ append_assoc w more after)
+
+pub output_begins : (p : Player) (bs xs w : List ℕ) → xs ≡ total p bs → Begins (output p) w → Begins xs w
+unfolding total
+output_begins p bs xs w e b = begins_on xs w (output p) (play_lines (game p.store) p.count (lines_from p.line.items bs)) e b
+
+-- what is left of a slice after n bytes
+pub left_over : (left : List ℕ) (n : ℕ) → take (length left - n) (drop n left) ≡ drop n left
+left_over left n = take_all _ (drop n left) (omega (arith, length-drop n left))
+
+-- of what was left n bytes more were written
+pub written_on : (out w left : List ℕ) (n : ℕ) → out ≡ w ++ left → out ≡ (w ++ take n left) ++ take (length left - n) (drop n left)
+written_on out w left n e =
+    e ∙ ap (λ l. w ++ l) (sym (take-append-drop n left) ∙ ap (λ l. take n left ++ l) (sym (left_over left n)))
+    ∙ sym (append_assoc w (take n left) _)
 
 begins_more : (v w xs ys : List ℕ) → xs ≡ v ++ ys → Begins ys w → Begins xs (v ++ w)
 begins_more v w xs ys e (more, h) = (more, e ∙ ap (λ l. v ++ l) h ∙ sym (append_assoc v w more))

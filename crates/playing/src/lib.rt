@@ -1,16 +1,16 @@
 // The program's work, for any program: reads, plays and writes.
 #![tactic(auto)]
 
-ghost use Rattle.std.specs.Prelude.{◌≡◌, ◌≢◌, ℕ, ◌<◌, ◌≤◌, nat_lt, List, [], ◌++◌, length, take, drop, IfOk, IfErr, OnOk, OnErr};
+ghost use Rattle.std.specs.Prelude.{◌≡◌, ◌≢◌, ℕ, ◌<◌, ◌≤◌, List, [], ◌++◌, length, IfOk, IfErr, OnOk, OnErr};
 ghost use Rattle.std.specs.Bool.{MatchBool};
 ghost use Rattle.std.specs.Io.{ReadsAtMost, WritesAtMost};
 ghost use Rattle.std.specs.Io.KnownBytes.{Appends, Keeps, ReadConsumes, WriteAppends};
 ghost use Rattle.std.specs.IoError.{error_kind};
-ghost use Rattle.player.specs.Play.{total, played};
-ghost use Rattle.playing.specs.Between.{Between};
-ghost use Rattle.playing.specs.Written.{Written, WrittenInPart, Continues, Finishes, FinishesInPart};
+ghost use Rattle.player.specs.Cut.{Emptied};
+ghost use Rattle.player.specs.Play.{output, goes_on, total, played};
+ghost use Rattle.playing.specs.Written.{Written, Begins, WrittenInPart, Continues, Finishes, FinishesInPart};
 
-use player::Play;
+use player::Player;
 use std::io;
 use std::io::{ErrorKind, Read, Write};
 use std::process::ExitCode;
@@ -36,102 +36,65 @@ fn put_some<W: Write>(writer: &mut W, bytes: &[u8]) -> io::Result<usize>
         match writer.write(bytes) {
             Ok(0) => return Err(io::Error::new(ErrorKind::WriteZero, "nothing was taken")),
             Ok(put) => return Ok(put),
-            Err(e) => {
-                if e.kind() != ErrorKind::Interrupted {
-                    return Err(e);
-                }
-            }
+            Err(e) if e.kind() == ErrorKind::Interrupted => {}
+            Err(e) => return Err(e),
         }
     }
     Err(io::Error::new(ErrorKind::TimedOut, "each write was interrupted"))
 }
 
-// Writes what stands in the output buffer.
-fn flush<W: Write>(writer: &mut W, out: &[u8], at: usize) -> Result<(), Broken>
-    requires { at ≤ length out.now }
-    ensures all { OnOk result (Appends (W.contents writer.old) (W.contents writer.new) (take at out.now)) }
-    ensures part { (k : ℕ) × (k ≤ at) × Appends (W.contents writer.old) (W.contents writer.new) (take k out.now) }
+// Writes all of these bytes.
+fn put_all<W: Write>(writer: &mut W, bytes: &[u8]) -> Result<(), Broken>
+    ensures all { OnOk result (Appends (W.contents writer.old) (W.contents writer.new) bytes.now) }
+    ensures part { (w : List ℕ) × Appends (W.contents writer.old) (W.contents writer.new) w × Begins bytes.now w }
 {
-    let mut from = 0;
-    while from < at {
-        match put_some(writer, &out[from..at]) {
-            Ok(put) => from += put,
-            Err(e) => return Err(Broken::Writing(e)),
-        }
+    let mut rest = bytes;
+    while !rest.is_empty() {
+        let put = put_some(writer, rest).map_err(Broken::Writing)?;
+        rest = &rest[put..];
     }
     Ok(())
 }
 
-// Plays bytes of a chunk from `from` on, at least one, and writes what they gave: the next byte's place.
-fn send<W: Write>(
-    writer: &mut W,
-    chunk: &[u8],
-    from: usize,
-    line: &mut [u8],
-    out: &mut [u8],
-    fields: &mut [u16],
-    colours: &mut [u8],
-    play: &mut Play,
-) -> Result<usize, Broken>
-    requires between { Between line.old out.old fields.old colours.old play.old }
-    requires from_in_bounds { from < length chunk.now }
-    ensures next { IfOk result (λ next. (from < next) × (next ≤ length chunk.now)) }
-    ensures between { Between line.new out.new fields.new colours.new play.new }
-    ensures written { IfOk result (λ next. Written (W.contents writer.old) (W.contents writer.new)
-        (λ rest. total line.old out.old fields.old colours.old play.old (drop from chunk.now ++ rest))
-        (λ rest. total line.new out.new fields.new colours.new play.new (drop next chunk.now ++ rest))) }
-    ensures part { OnErr result (WrittenInPart (W.contents writer.old) (W.contents writer.new)
-        (λ rest. total line.old out.old fields.old colours.old play.old (drop from chunk.now ++ rest))) }
+// Writes the player's output, which leaves it.
+fn flush<W: Write>(writer: &mut W, player: &mut Player) -> Result<(), Broken>
+    ensures emptied { OnOk result (Emptied player.old player.new) }
+    ensures all { OnOk result (Appends (W.contents writer.old) (W.contents writer.new) (output player.old)) }
+    ensures part { (w : List ℕ) × Appends (W.contents writer.old) (W.contents writer.new) w × Begins (output player.old) w }
 {
-    let fed = player::take_bytes(chunk, from, line, out, fields, colours, *play);
-    *play = player::emptied(fed.play);
-    flush(writer, out, fed.play.at)?;
-    Ok(fed.next)
+    put_all(writer, player.output())?;
+    player.written();
+    Ok(())
 }
 
 // Plays all bytes of a chunk, unless a write fails: whether lines may follow.
-fn drain<W: Write>(
-    writer: &mut W,
-    chunk: &[u8],
-    line: &mut [u8],
-    out: &mut [u8],
-    fields: &mut [u16],
-    colours: &mut [u8],
-    play: &mut Play,
-) -> Result<bool, Broken>
-    requires { Between line.old out.old fields.old colours.old play.old }
-    ensures between { Between line.new out.new fields.new colours.new play.new }
-    ensures more { IfOk result (λ more. more ≡ nat_lt play.new.count 4294967295) }
+fn drain<W: Write>(writer: &mut W, chunk: &[u8], player: &mut Player) -> Result<bool, Broken>
+    requires { output player.old ≡ [] }
+    ensures empty { OnOk result (output player.new ≡ []) }
+    ensures more { IfOk result (λ more. more ≡ goes_on player.new) }
     ensures written { OnOk result (Written (W.contents writer.old) (W.contents writer.new)
-        (λ rest. total line.old out.old fields.old colours.old play.old (chunk.now ++ rest))
-        (total line.new out.new fields.new colours.new play.new)) }
+        (λ rest. total player.old (chunk.now ++ rest)) (total player.new)) }
     ensures part { OnErr result (WrittenInPart (W.contents writer.old) (W.contents writer.new)
-        (λ rest. total line.old out.old fields.old colours.old play.old (chunk.now ++ rest))) }
+        (λ rest. total player.old (chunk.now ++ rest))) }
 {
-    let mut from = 0;
-    while from < chunk.len() {
-        from = send(writer, chunk, from, line, out, fields, colours, play)?;
+    let mut rest = chunk;
+    while !rest.is_empty() {
+        let fed = player.feed(rest);
+        flush(writer, player)?;
+        rest = &rest[fed..];
     }
-    Ok(play.count < u32::MAX)
+    Ok(player.goes_on())
 }
 
 // The end of the input: the bytes after the last line end are a line too.
-fn close_text<W: Write>(
-    writer: &mut W,
-    line: &[u8],
-    out: &mut [u8],
-    fields: &mut [u16],
-    colours: &mut [u8],
-    play: Play,
-) -> Result<(), Broken>
-    requires { Between line.now out.old fields.old colours.old play }
-    ensures written { OnOk result (Appends (W.contents writer.old) (W.contents writer.new)
-        (total line.now out.old fields.old colours.old play [])) }
-    ensures part { OnErr result (WrittenInPart (W.contents writer.old) (W.contents writer.new)
-        (λ rest. total line.now out.old fields.old colours.old play [])) }
+fn close_text<W: Write>(writer: &mut W, player: &mut Player) -> Result<(), Broken>
+    requires { output player.old ≡ [] }
+    ensures empty { OnOk result (output player.new ≡ []) }
+    ensures written { OnOk result (Appends (W.contents writer.old) (W.contents writer.new) (total player.old [])) }
+    ensures part { OnErr result (WrittenInPart (W.contents writer.old) (W.contents writer.new) (λ rest. total player.old [])) }
 {
-    let last = player::finish(line, out, fields, colours, play);
-    flush(writer, out, last.at)
+    player.finish();
+    flush(writer, player)
 }
 
 // One read, made again while a signal interrupts it: how many bytes came, 0 at the end of the input.
@@ -144,11 +107,8 @@ fn take_some<R: Read>(reader: &mut R, input: &mut [u8]) -> io::Result<usize>
     for _ in 0..u64::MAX {
         match reader.read(input) {
             Ok(got) => return Ok(got),
-            Err(e) => {
-                if e.kind() != ErrorKind::Interrupted {
-                    return Err(e);
-                }
-            }
+            Err(e) if e.kind() == ErrorKind::Interrupted => {}
+            Err(e) => return Err(e),
         }
     }
     Err(io::Error::new(ErrorKind::TimedOut, "each read was interrupted"))
@@ -159,54 +119,37 @@ fn read_some<R: Read, W: Write>(
     reader: &mut R,
     writer: &mut W,
     input: &mut [u8],
-    line: &mut [u8],
-    out: &mut [u8],
-    fields: &mut [u16],
-    colours: &mut [u8],
-    play: &mut Play,
+    player: &mut Player,
 ) -> Result<bool, Broken>
-    requires { Between line.old out.old fields.old colours.old play.old }
-    ensures between { Between line.new out.new fields.new colours.new play.new }
-    ensures played { 0 < length input.old → IfOk result (λ more. MatchBool more
+    requires empty { output player.old ≡ [] }
+    requires room { 0 < length input.old }
+    ensures empty { OnOk result (output player.new ≡ []) }
+    ensures played { IfOk result (λ more. MatchBool more
         (Continues (R.remaining reader.old) (R.remaining reader.new) (W.contents writer.old) (W.contents writer.new)
-        (total line.old out.old fields.old colours.old play.old) (total line.new out.new fields.new colours.new play.new))
-        (Finishes (R.remaining reader.old) (W.contents writer.old) (W.contents writer.new)
-        (total line.old out.old fields.old colours.old play.old))) }
-    ensures part { 0 < length input.old → OnErr result (FinishesInPart (R.remaining reader.old)
-        (W.contents writer.old) (W.contents writer.new) (total line.old out.old fields.old colours.old play.old)) }
+        (total player.old) (total player.new))
+        (Finishes (R.remaining reader.old) (W.contents writer.old) (W.contents writer.new) (total player.old))) }
+    ensures part { OnErr result (FinishesInPart (R.remaining reader.old)
+        (W.contents writer.old) (W.contents writer.new) (total player.old)) }
 {
-    let got = match take_some(reader, input) {
-        Ok(got) => got,
-        Err(e) => return Err(Broken::Reading(e)),
-    };
+    let got = take_some(reader, input).map_err(Broken::Reading)?;
     if got == 0 {
-        close_text(writer, line, out, fields, colours, *play)?;
+        close_text(writer, player)?;
         return Ok(false);
     }
-    drain(writer, &input[..got], line, out, fields, colours, play)
+    drain(writer, &input[..got], player)
 }
 
-// Reads, plays and writes until the input ends or the last line is answered.
-fn play_all<R: Read, W: Write>(
-    reader: &mut R,
-    writer: &mut W,
-    input: &mut [u8],
-    line: &mut [u8],
-    out: &mut [u8],
-    fields: &mut [u16],
-    colours: &mut [u8],
-) -> Result<(), Broken>
-    requires line { 65 ≡ length line.old }
-    requires out { 77 ≤ length out.old }
-    requires store { (16384 ≡ length fields.old) × (4096 ≡ length colours.old) }
-    ensures played { 0 < length input.old → OnOk result
+// Reads, plays and writes until the input ends or the last line is answered. All memory of a run is here, once.
+pub fn play_all<R: Read, W: Write>(reader: &mut R, writer: &mut W) -> Result<(), Broken>
+    ensures played { OnOk result
         (Finishes (R.remaining reader.old) (W.contents writer.old) (W.contents writer.new) played) }
-    ensures part { 0 < length input.old → OnErr result
+    ensures part { OnErr result
         (FinishesInPart (R.remaining reader.old) (W.contents writer.old) (W.contents writer.new) played) }
 {
-    let mut play = player::unstarted();
+    let mut input = [0u8; 65536];
+    let mut player = Player::new();
     for _ in 0..u64::MAX {
-        if !read_some(reader, writer, input, line, out, fields, colours, &mut play)? {
+        if !read_some(reader, writer, &mut input, &mut player)? {
             return Ok(());
         }
     }
@@ -216,21 +159,7 @@ fn play_all<R: Read, W: Write>(
 // Plays the text of standard input on the player's own store, and writes an output line for each line. Where the reader of the output goes
 // away, the player ends quietly, as any program does.
 pub fn play_input<R: Input + Print>(rt: &R) -> Result<ExitCode, Broken> {
-    let mut input = [0u8; 65536];
-    let mut out = [0u8; 65536];
-    let mut line = [0u8; 65];
-    let mut fields: [u16; 16384] = [65535; 16384];
-    let mut colours: [u8; 4096] = [0; 4096];
-    let played = play_all(
-        &mut rt.reader(),
-        &mut io::writer(rt),
-        &mut input,
-        &mut line,
-        &mut out,
-        &mut fields,
-        &mut colours,
-    );
-    match played {
+    match play_all(&mut rt.reader(), &mut io::writer(rt)) {
         Ok(()) => Ok(ExitCode::SUCCESS),
         Err(Broken::Writing(e)) if e.kind() == ErrorKind::BrokenPipe => Ok(ExitCode::from(
             READER_GONE,

@@ -1,4 +1,4 @@
-// Plays the text of standard input.
+// The same program as `play`, which the gate runs on long turn files and odd lines: a program has one input.
 #![tactic(auto)]
 
 use playing::Broken;

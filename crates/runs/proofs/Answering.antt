@@ -1,6 +1,6 @@
 -- Answer, and the turns of its job.
 use Prim.Native.Nat.{ℕ, zero, suc, ◌+◌, ◌≤◌, ◌<◌}
-use Rattle.std.specs.Prelude.{◌≡◌, ◌≢◌, eqb}
+use Rattle.std.specs.Prelude.{◌≡◌, ◌≢◌, eqb, Some, None}
 use Rattle.std.proofs.Math.Path.{refl}
 use Rattle.std.proofs.Common.{sym, ◌∙◌, ap, inl, arith, lt-ltb, le-ltb, eq-eqb, ne_eqb}
 use Rattle.std.proofs.Math.Decide.{dec_lt, ℕ_discrete}
@@ -18,7 +18,6 @@ use Rattle.machine.specs.Gray.{grayed}
 use Rattle.machine.specs.Answering.{answer_to, answer, next_answering}
 use Rattle.machine.specs.Machine.{row_of}
 use Rattle.machine.specs.declared.Row.{Row}
-use Rattle.machine.specs.declared.Job.TheVariants.{Idle, Busy}
 use Rattle.machine.specs.declared.Work.TheVariants.{Answering}
 use Rattle.runs.specs.Abs.{stage_at, stage_in, abs_job, abs_row, abs}
 use Rattle.runs.proofs.Abs.{abs-grayed, eight-put}
@@ -52,8 +51,8 @@ module _ {st : Store} {w : ℕ} (H : At st w) where
       same : posted st.rec.stage ≡ Abstract.posted (stage_in st.rec)
       same = posted-abs st.rec.stage st.rec.place st.rec.part st.rec.hold st.rec.found
 
-      go : row.job ≡ Idle → row.status ≢ number → Dec (number ≡ 0)
-          → Quiet st w (pick (eqb number 0) (more (with_job row (Busy (Answering 0)))) (done (with_status row number)))
+      go : row.job ≡ None → row.status ≢ number → Dec (number ≡ 0)
+          → Quiet st w (pick (eqb number 0) (more (with_job row (Some (Answering 0)))) (done (with_status row number)))
       go e n (yes z) = rw (eq-eqb _ 0 z) (inl (
         by-writer (Writing.answer-start w H.writer (ap abs_job e) (sym same ∙ z) (λ q. n (q ∙ sym z))),
         put-job H _ _ refl,
@@ -70,11 +69,11 @@ module _ {st : Store} {w : ℕ} (H : At st w) where
       ))
 
   -- the turns of its job: gray a slot, or finish
-  pub answering-moves : (k : ℕ) → row.job ≡ Busy (Answering k) → k ≤ 8 → Wrote st w (next_answering row st.fields st.colours k)
+  pub answering-moves : (k : ℕ) → row.job ≡ Some (Answering k) → k ≤ 8 → Wrote st w (next_answering row st.fields st.colours k)
   unfolding next_answering with_status with_job
   answering-moves k e b = go (dec_lt k 8)
     where
-      gray-slot : k < 8 → Wrote st w (written (more (with_job row (Busy (Answering (k + 1))))) st.fields (grayed st.colours (slot_of row k)))
+      gray-slot : k < 8 → Wrote st w (written (more (with_job row (Some (Answering (k + 1))))) st.fields (grayed st.colours (slot_of row k)))
       gray-slot l = rw (slot_at H k l) (inl (
         by-writer (Writing.answer-gray w k H.writer (ap abs_job e) l),
         put-row H _ (grayed st.colours _) _ (abs-grayed st.colours _),

@@ -29,6 +29,7 @@ use Rattle.machine.specs.declared.Record.{Record}
 use Rattle.machine.specs.declared.Row.{Row}
 use Rattle.runs.specs.Abs.{abs_row, abs_fields, Eight, Steps}
 use Rattle.runs.proofs.Abs.{any_default, get_or-upd, abs-grayed, field_in, fit}
+use Rattle.machine.specs.declared.Refusal.{Refusal}
 
 -- what the sweep makes of a colour
 swept-abs : (b : ℕ) → b ≤ 3 → swept b ≡ Collecting.swept_to b
@@ -80,7 +81,7 @@ module _ (n g m c : ℕ) (desk : List Row) (fields colours : List ℕ) (E : Eigh
   ticked cl = record { N = n; g = g; M = m; count = c + 1; colour = cl; field = abs_fields fields; rows = λ w. abs_row (get_or desk w fresh_row) }
 
   -- a turn that is refused changes nothing; if none of its tests fails it is the outcome
-  guard : (t p k h f : ℕ) (ts : List (Bool × ℕ)) (o : Collected) → (Passed ts → Goes t p k h f o)
+  guard : (t p k h f : ℕ) (ts : List (Bool × Refusal)) (o : Collected) → (Passed ts → Goes t p k h f o)
       → Goes t p k h f (refuse (barred (rec t p k h f) colours) ts o)
   guard t p k h f ts o = refuse-cases (Goes t p k h f) _ ts o (λ i. inr (refl, refl))
 
@@ -97,7 +98,7 @@ module _ (n g m c : ℕ) (desk : List Row) (fields colours : List ℕ) (E : Eigh
         → Goes t p k h f (collected (waiting (rec t p k h f) (survey number desk) next) colours)
     unfolding waiting survey
     wait_moves t p k h f number next All-same =
-        refuse-cases (λ o. Goes t p k h f (collected o colours)) _ _ _ (λ k. inr (refl, refl)) (λ u. go (all (has_status number) desk) refl)
+        refuse-cases (λ r. Goes t p k h f (collected (waiting (rec t p k h f) r next) colours)) _ _ _ (λ k. inr (refl, refl)) (λ u. go (all (has_status number) desk) refl)
       where
         go : (b : Bool) → all (has_status number) desk ≡ b
             → Goes t p k h f (collected (pick b (worked (entering (rec t p k h f) next)) (waited (rec t p k h f))) colours)

@@ -1,5 +1,5 @@
 -- The count in the record is the number of working turns since the opening.
-use Rattle.std.specs.Prelude.{ℕ, zero, suc, ◌+◌, ◌≡◌, refl, List, [], ◌∷◌, eqb}
+use Rattle.std.specs.Prelude.{ℕ, zero, suc, ◌+◌, ◌≡◌, refl, List, [], ◌∷◌, eqb, Err, Ok}
 use Rattle.std.proofs.Common.{sym, ◌∙◌, ap, inl, inr, arith, ne_eqb}
 use Rattle.moves.specs.Machine as Abstract
 use Rattle.moves.specs.Moves.{counted}
@@ -8,35 +8,35 @@ use Rattle.machine.specs.Choice.{pick}
 use Rattle.machine.specs.Store.{Store, Outcome, fresh}
 use Rattle.machine.specs.Machine.{Turn, turn}
 use Rattle.machine.specs.Run.{run, works, since_opening}
-use Rattle.machine.specs.declared.Answer.{Answer}
-use Rattle.machine.specs.declared.Answer.TheVariants.{Done, More, Worked, Waited, Refused}
 use Rattle.runs.specs.Abs.{stage_at, stage_in, Steps}
 use Rattle.runs.specs.Course.{Good}
 use Rattle.runs.proofs.Course.{turn-moves, good_turn, good-fresh}
+use Rattle.machine.specs.Answer.{Answered}
+use Rattle.machine.specs.declared.Answer.TheVariants.{Done, More, Worked, Waited}
 
 -- the count after an answer in stage t, k before it
-abbrev counts : Answer → ℕ → ℕ → ℕ
+abbrev counts : Answered → ℕ → ℕ → ℕ
 counts a t k = pick (eqb (works a) 0) k (pick (eqb t 0) 1 (k + 1))
 
 -- it is the count of moves
-counts-moves : (a : Answer) (t c p k h f : ℕ) → counted (works a) (stage_at t p k h f) c ≡ counts a t c
-counts-moves Done t c p k h f = refl
-counts-moves More t c p k h f = refl
-counts-moves Waited t c p k h f = refl
-counts-moves (Refused i) t c p k h f = refl
-counts-moves Worked zero c p k h f = refl
-counts-moves Worked (suc zero) c p k h f = refl
-counts-moves Worked (suc (suc zero)) c p k h f = refl
-counts-moves Worked (suc (suc (suc zero))) c p k h f = refl
-counts-moves Worked (suc (suc (suc (suc zero)))) c p k h f = refl
-counts-moves Worked (suc (suc (suc (suc (suc i))))) c p k h f = rw (ne_eqb (suc (suc (suc (suc (suc i))))) 0 (omega arith))
+counts-moves : (a : Answered) (t c p k h f : ℕ) → counted (works a) (stage_at t p k h f) c ≡ counts a t c
+counts-moves (Ok Done) t c p k h f = refl
+counts-moves (Ok More) t c p k h f = refl
+counts-moves (Ok Waited) t c p k h f = refl
+counts-moves (Err i) t c p k h f = refl
+counts-moves (Ok Worked) zero c p k h f = refl
+counts-moves (Ok Worked) (suc zero) c p k h f = refl
+counts-moves (Ok Worked) (suc (suc zero)) c p k h f = refl
+counts-moves (Ok Worked) (suc (suc (suc zero))) c p k h f = refl
+counts-moves (Ok Worked) (suc (suc (suc (suc zero)))) c p k h f = refl
+counts-moves (Ok Worked) (suc (suc (suc (suc (suc i))))) c p k h f = rw (ne_eqb (suc (suc (suc (suc (suc i))))) 0 (omega arith))
 
 -- no working turn, no change
-counts-none : (a : Answer) (t c : ℕ) → works a ≡ 0 → counts a t c ≡ c
+counts-none : (a : Answered) (t c : ℕ) → works a ≡ 0 → counts a t c ≡ c
 counts-none a t c e = rw e
 
 -- one turn
-count_turn : (st : Store) (o : Outcome Answer) → Steps st o → o.store.rec.count ≡ counts o.answer st.rec.stage st.rec.count
+count_turn : (st : Store) (o : Outcome Answered) → Steps st o → o.store.rec.count ≡ counts o.answer st.rec.stage st.rec.count
 count_turn st o (inl (mv, e, q, t, E)) =
     ap (λ (s : Abstract.St). s.count) e ∙ count-after mv ∙ ap (λ w. counted w (stage_in st.rec) st.rec.count) t
     ∙ counts-moves o.answer st.rec.stage st.rec.count st.rec.place st.rec.part st.rec.hold st.rec.found

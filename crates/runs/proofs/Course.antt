@@ -12,11 +12,11 @@ use Rattle.machine.specs.Store.{Store, Outcome, fresh_row, fresh}
 use Rattle.machine.specs.Machine.{Turn, writer, collector, turn}
 use Rattle.machine.specs.Run.{run}
 use Rattle.machine.specs.declared.Row.{Row}
-use Rattle.machine.specs.declared.Answer.{Answer}
 use Rattle.runs.specs.Abs.{abs_job, abs, Eight, Steps}
 use Rattle.runs.proofs.Writer.{write_moves}
 use Rattle.runs.proofs.Collect.{collect-moves}
 use Rattle.runs.specs.Course.{Good}
+use Rattle.machine.specs.Answer.{Answered}
 
 -- any turn
 pub turn-moves : (st : Store) → Eight st.desk → (t : Turn) → Steps st (turn t st)
@@ -68,7 +68,7 @@ good-fresh n g m = record {
 
 module _ {n g m : ℕ} where
   -- after a turn
-  pub good_turn : (st : Store) (o : Outcome Answer) → Steps st o → Good n g m st → Good n g m o.store
+  pub good_turn : (st : Store) (o : Outcome Answered) → Steps st o → Good n g m st → Good n g m o.store
   good_turn st o (inl (mv, e, q, t, E)) G = record {
     eight = E;
     moves = rw (q, e) (then G.moves mv);

@@ -1,5 +1,5 @@
 -- Create, and the turns of its job.
-use Rattle.std.specs.Prelude.{ℕ, zero, suc, ◌+◌, ◌*◌, ◌<◌, ◌≡◌, Bool, true, false, cond, ◌≢◌, List, [], ◌∷◌, ltb, eqb, set}
+use Rattle.std.specs.Prelude.{ℕ, zero, suc, ◌+◌, ◌*◌, ◌<◌, ◌≡◌, Bool, true, false, cond, ◌≢◌, List, [], ◌∷◌, ltb, eqb, set, Some, None, Result, Ok, Err}
 use Rattle.std.proofs.Math.Path.{refl, ap, fun_ext}
 use Rattle.std.proofs.Common.{◌∙◌, arith, get_or-set_same, get_or-set_other, ltb-true, le-ltb, eq-eqb, ne_eqb}
 use Rattle.std.proofs.Math.Logic.{inl}
@@ -24,14 +24,13 @@ use Rattle.machine.specs.declared.Record.{Record}
 use Rattle.machine.specs.declared.Row.{Row}
 use Rattle.machine.specs.declared.Look.{Look}
 use Rattle.machine.specs.declared.Look.TheVariants.{Ahead, Keep, White}
-use Rattle.machine.specs.declared.Room.{Room}
-use Rattle.machine.specs.declared.Room.TheVariants.{Free, Full, Bad}
-use Rattle.machine.specs.declared.Job.TheVariants.{Idle, Busy}
+use Rattle.machine.specs.declared.Refusal.{Refusal}
 use Rattle.machine.specs.declared.Work.TheVariants.{Creating}
 use Rattle.runs.specs.Abs.{stage_at, stage_in, abs_look, abs_job, abs_fields, abs}
 use Rattle.runs.proofs.Abs.{get_or-upd, abs-rows, eight-put}
 use Rattle.runs.specs.Frame.{Wrote, At}
 use Rattle.runs.proofs.Frame.{put_same, idle_is, in_desk, put-row, put-job, job-eight, slot-set, slot-eight}
+use Rattle.machine.specs.declared.Refusal.TheVariants.{BadNumber}
 
 -- ---- take: the lowest free cell is free, and its fields are emptied
 -- the cell c that is found is free: it is i + j, with colour 0 at j
@@ -39,20 +38,20 @@ abbrev Found : ℕ → List ℕ → ℕ → Type 0
 Found i l c = (j : ℕ) × (c ≡ i + j) × (j < length l) × (get_or l j 3 ≡ 0)
 
 -- the look for the lowest free cell
-pub free_is : (i : ℕ) (l : List ℕ) (c : ℕ) → lowest_free i l ≡ Free c → Found i l c
+pub free_is : (i : ℕ) (l : List ℕ) (c : ℕ) → lowest_free i l ≡ Ok c → Found i l c
 unfolding lowest_free
 free_is i [] c e = let z : ◌≡◌ {A = ℕ} 0 1 = cc in absurd (omega arith)
 free_is i (b ∷ bs) c e = go (ℕ_discrete b 0) (colour_ok b) (λ q. free_is (i + 1) bs c q) e
   where
-    same : Free i ≡ Free c → i ≡ c
+    same : ◌≡◌ {A = Result ℕ Refusal} (Ok i) (Ok c) → i ≡ c
     same p = cc
 
-    past : (t : Bool) → (lowest_free (i + 1) bs ≡ Free c → Found (i + 1) bs c) → pick t (lowest_free (i + 1) bs) Bad ≡ Free c → Found i (b ∷ bs) c
+    past : (t : Bool) → (lowest_free (i + 1) bs ≡ Ok c → Found (i + 1) bs c) → pick t (lowest_free (i + 1) bs) (Err BadNumber) ≡ Ok c → Found i (b ∷ bs) c
     past true h q = let k = h q in (suc k.0, omega (arith, k.1), omega (arith, k.2), k.3)
     past false h q = let z : ◌≡◌ {A = ℕ} 0 1 = cc in absurd (omega arith)
 
-    go : Dec (b ≡ 0) → (t : Bool) → (lowest_free (i + 1) bs ≡ Free c → Found (i + 1) bs c)
-        → pick (eqb b 0) (Free i) (pick t (lowest_free (i + 1) bs) Bad) ≡ Free c → Found i (b ∷ bs) c
+    go : Dec (b ≡ 0) → (t : Bool) → (lowest_free (i + 1) bs ≡ Ok c → Found (i + 1) bs c)
+        → pick (eqb b 0) (Ok i) (pick t (lowest_free (i + 1) bs) (Err BadNumber)) ≡ Ok c → Found i (b ∷ bs) c
     go (yes z) t h q = (0, omega (arith, same (rw (eq-eqb b 0 z) at q)), omega arith, z)
     go (no n) t h q = past t h (rw (ne_eqb b 0 n) at q)
 
@@ -117,11 +116,10 @@ module _ {st : Store} {w : ℕ} (H : At st w) where
   row = row_of st w
 
   -- the first turn, by what the look for a free cell finds
-  take-moves : (s : ℕ) → row.job ≡ Idle → (r : Room) → lowest_free 0 st.colours ≡ r → Wrote st w (take row st.fields st.colours s r)
+  take-moves : (s : ℕ) → row.job ≡ None → (r : Result ℕ Refusal) → lowest_free 0 st.colours ≡ r → Wrote st w (take row st.fields st.colours s r)
   unfolding take take_cell with_job
-  take-moves s e Full q = put_same st w 7
-  take-moves s e Bad q = put_same st w 2
-  take-moves s e (Free c) q = let k = free_is 0 st.colours c q in
+  take-moves s e (Err k) q = put_same st w k
+  take-moves s e (Ok c) q = let k = free_is 0 st.colours c q in
       let l : c < length st.colours = omega (arith, k.1, k.2) in
       inl (
         by-writer (Writing.take w s c H.writer (ap abs_job e) (omega (arith, H.fit.colours)) (ap (λ i. get_or st.colours i 3) (omega (arith, k.1)) ∙ k.3)),
@@ -132,7 +130,7 @@ module _ {st : Store} {w : ℕ} (H : At st w) where
           count = st.rec.count;
           colour = get_or-upd st.colours c 3 3 l i;
           field = emptied-abs st.fields c i;
-          rows = abs-rows st.desk w (with_job row (Busy (Creating (record { slot = s; cell = c; look = Ahead })))) (in_desk H) i;
+          rows = abs-rows st.desk w (with_job row (Some (Creating (record { slot = s; cell = c; look = Ahead })))) (in_desk H) i;
         }),
         refl,
         refl,
@@ -146,7 +144,7 @@ module _ {st : Store} {w : ℕ} (H : At st w) where
       take-moves s (idle_is row.job t.1.1.0) (lowest_free 0 st.colours) refl)
 
   -- the look; the finish, without white and with it
-  pub creating-moves : (s c : ℕ) (l : Look) → s < 8 → c < st.rec.n → row.job ≡ Busy (Creating (record { slot = s; cell = c; look = l }))
+  pub creating-moves : (s c : ℕ) (l : Look) → s < 8 → c < st.rec.n → row.job ≡ Some (Creating (record { slot = s; cell = c; look = l }))
       → Wrote st w (next_creating st.rec row st.fields st.colours (record { slot = s; cell = c; look = l }) l)
   unfolding next_creating look decided with_slot with_job
   creating-moves s c Ahead b d e = inl (

@@ -1,5 +1,5 @@
 -- The frame of a writer's turn: its row is put back, with the fields and colours after it.
-use Rattle.std.specs.Prelude.{ℕ, ◌<◌, ◌≡◌, true, List, length, get_or, set}
+use Rattle.std.specs.Prelude.{ℕ, ◌<◌, ◌≡◌, true, List, length, get_or, set, Some, None, Option}
 use Rattle.std.proofs.Math.Path.{refl, ap}
 use Rattle.std.proofs.Common.{◌∙◌, inr, arith, length-set}
 use Rattle.std.proofs.lemmas.Bool.{false≢true}
@@ -12,21 +12,21 @@ use Rattle.machine.specs.Parts.{with_job}
 use Rattle.machine.specs.Turns.{refused, is_idle}
 use Rattle.machine.specs.Machine.{row_of}
 use Rattle.machine.specs.declared.Row.{Row}
-use Rattle.machine.specs.declared.Job.{Job}
-use Rattle.machine.specs.declared.Job.TheVariants.{Idle, Busy}
 use Rattle.runs.specs.Abs.{abs_job, abs_row, abs_fields, abs, Eight}
 use Rattle.runs.proofs.Abs.{any_default, get_or-upd, abs-rows, eight-put}
 use Rattle.runs.specs.Frame.{Quiet, At}
+use Rattle.machine.specs.declared.Work.{Work}
+use Rattle.machine.specs.declared.Refusal.{Refusal}
 
 -- a refusal inside the row's turn puts the row back as it was
-pub put_same : (st : Store) (w k : ℕ) → Quiet st w (refused (row_of st w) k)
+pub put_same : (st : Store) (w : ℕ) (k : Refusal) → Quiet st w (refused (row_of st w) k)
 put_same st w k =
     inr ((λ i. record { rec = st.rec; desk = set-get_or st.desk w fresh_row i; fields = st.fields; colours = st.colours }), refl)
 
 -- refusal 4's test as a fact
-pub idle_is : (j : Job) → is_idle j ≡ true → j ≡ Idle
-idle_is Idle e = refl
-idle_is (Busy w) e = absurd (false≢true e)
+pub idle_is : (j : Option Work) → is_idle j ≡ true → j ≡ None
+idle_is None e = refl
+idle_is (Some w) e = absurd (false≢true e)
 
 module _ {st : Store} {w : ℕ} (H : At st w) where
   abbrev row : Row
@@ -51,13 +51,13 @@ module _ {st : Store} {w : ℕ} (H : At st w) where
   }
 
   -- the job alone changes
-  pub put-job : (j : Job) (k : Abstract.Job) → abs_job j ≡ k
+  pub put-job : (j : Option Work) (k : Abstract.Job) → abs_job j ≡ k
       → abs (record { rec = st.rec; desk = set st.desk w (with_job row j); fields = st.fields; colours = st.colours }) ≡ Abstract.set_job (abs st) w k
   unfolding with_job
   put-job j k e = put-row _ st.colours _ refl ∙ ap (λ j. Abstract.set_job (abs st) w j) e
 
   -- and the row keeps its eight slots
-  pub job-eight : (j : Job) → Eight (set st.desk w (with_job row j))
+  pub job-eight : (j : Option Work) → Eight (set st.desk w (with_job row j))
   unfolding with_job
   job-eight j = eight-put st.desk w _ H.eight (H.eight w)
 

@@ -14,12 +14,12 @@ use Rattle.moves.proofs.Fate.{freed}
 use Rattle.machine.specs.Store.{Store, Outcome, fresh}
 use Rattle.machine.specs.Machine.{Turn, turn}
 use Rattle.machine.specs.Run.{run, works, working_turns, C}
-use Rattle.machine.specs.declared.Answer.{Answer}
 use Rattle.runs.specs.Abs.{stage_in, abs, Steps}
 use Rattle.runs.specs.Demand3.{Reachable, Free}
 use Rattle.runs.specs.Course.{Good}
 use Rattle.runs.proofs.Course.{turn-moves, good_turn, good-run, good}
 use Rattle.runs.proofs.Reaching.{reached}
+use Rattle.machine.specs.Answer.{Answered}
 
 -- after a first part of these turns x is free
 abbrev Freed : ℕ → Store → List Turn → Type 0
@@ -31,7 +31,7 @@ module _ (x : ℕ) (σ₁ : Abstract.Stage) (s₁ : Abstract.St) where
   Still W st = (a : ℕ) × Fate.Later x σ₁ s₁ W a (stage_in st.rec) (abs st)
 
   -- a turn after which x isn't free
-  still : (st : Store) (o : Outcome Answer) (W : ℕ) → Steps st o → ¬ Free o.store x → Still W st → Still (W + works o.answer) o.store
+  still : (st : Store) (o : Outcome Answered) (W : ℕ) → Steps st o → ¬ Free o.store x → Still W st → Still (W + works o.answer) o.store
   still st o W (inl (mv, e, q, t, E)) u (a, h) =
       (close mv a, rw (← t, q, e) (Fate.turn h mv (λ z. u (ap (λ (s : Abstract.St). s.colour x) e ∙ z))))
   still st o W (inr (e, t)) u (a, h) = (a, rw (t, e) (rw (add-zero W) h))

@@ -1,5 +1,5 @@
 -- The laws of the changes that leave a store in range.
-use Rattle.std.specs.Prelude.{ℕ, ◌≤◌, ◌<◌, ◌≡◌, refl, Bool, true, false, ◌≢◌, List, ltb, eqb, length, get_or, set}
+use Rattle.std.specs.Prelude.{ℕ, ◌≤◌, ◌<◌, ◌≡◌, refl, Bool, true, false, ◌≢◌, List, ltb, eqb, length, get_or, set, Err}
 use Rattle.std.proofs.Common.{◌∙◌, ap, subst, arith, length-set, lt-ltb, le-ltb}
 use Rattle.std.proofs.Math.Decide.{dec_lt}
 use Rattle.machine.specs.Choice.{pick}
@@ -8,14 +8,15 @@ use Rattle.machine.specs.Limits.{none}
 use Rattle.machine.specs.Range.{value_ok, record_ok, colour_ok}
 use Rattle.machine.specs.Gray.{grayed, gray_ok}
 use Rattle.machine.specs.declared.Record.{Record}
-use Rattle.machine.specs.declared.Answer.{Answer}
-use Rattle.machine.specs.declared.Answer.TheVariants.{Refused}
 use Rattle.runs.proofs.Abs.{any_default, set_all}
 use Rattle.runs.specs.Range.{numbers_ok, Values, Colours, Mild}
+use Rattle.machine.specs.Answer.{Answered}
+use Rattle.machine.specs.Answer.{number}
+use Rattle.machine.specs.declared.Refusal.{Refusal}
 
 -- an answer that is no refusal, or one from 3 on, is neither refusal 1 nor 2
-pub mild-not : (a : Answer) (k : ℕ) → Mild a → k ≤ 2 → a ≢ Refused k
-mild-not a k h l e = let z : 3 ≤ k = subst Mild e h in omega arith
+pub mild-not : (a : Answered) (k : Refusal) → Mild a → number k ≤ 2 → a ≢ Err k
+mild-not a k h l e = let z : 3 ≤ number k = subst Mild e h in omega arith
 
 -- ---- the record
 -- the record's test

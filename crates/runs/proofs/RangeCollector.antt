@@ -1,6 +1,6 @@
 -- The collector's turn on a store in range leaves it in range, with neither refusal 1 nor 2.
 use Prim.Native.Nat.{ℕ, zero, suc, ◌+◌, ◌*◌, ◌≤◌, ◌<◌}
-use Rattle.std.specs.Prelude.{◌≡◌, Bool, ◌≢◌, List, [], ◌∷◌, eqb, length, get_or}
+use Rattle.std.specs.Prelude.{◌≡◌, Bool, ◌≢◌, List, [], ◌∷◌, eqb, length, get_or, Err, Ok}
 use Rattle.std.proofs.Math.Path.{refl}
 use Rattle.std.proofs.Math.Bool.{true, false}
 use Rattle.std.proofs.Common.{inl, arith, length-set}
@@ -20,12 +20,15 @@ use Rattle.machine.specs.Collector.{collector_turn}
 use Rattle.machine.specs.Machine.{put_record, collect}
 use Rattle.machine.specs.declared.Record.{Record}
 use Rattle.machine.specs.declared.Row.{Row}
-use Rattle.machine.specs.declared.Answer.TheVariants.{Worked, Refused}
 use Rattle.runs.proofs.Refused.{refuse-clear}
 use Rattle.runs.proofs.Abs.{set_all, fit}
 use Rattle.runs.proofs.Collect.{part-zero, part_in}
 use Rattle.runs.specs.Range.{numbers_ok, Colours, InRange, Fine}
 use Rattle.runs.proofs.Range.{record_ok_lem, value-at, colour-at, gray_ok_lem, grayed_in, grayed-length}
+use Rattle.machine.specs.declared.Answer.TheVariants.{Worked}
+use Rattle.machine.specs.Answer.{number}
+use Rattle.machine.specs.declared.Refusal.{Refusal}
+use Rattle.machine.specs.declared.Refusal.TheVariants.{BadNumber}
 
 -- a swept colour is a colour
 swept_ok : (c : ℕ) → colour_ok c ≡ true → colour_ok (swept c) ≡ true
@@ -51,7 +54,7 @@ module _ (n g m c : ℕ) (desk : List Row) (fields colours : List ℕ) where
 
   module _ (t p k h f : ℕ) (R : InRange (store t p k h f)) where
     -- a refusal from 3 on, and a turn that waits
-    same : (i : ℕ) → 3 ≤ i → Leaves t p k h f (collected (record { answer = Refused i; rec = rec t p k h f }) colours)
+    same : (i : Refusal) → 3 ≤ number i → Leaves t p k h f (collected (record { answer = Err i; rec = rec t p k h f }) colours)
     same i l = record { mild = l; after = R }
 
     idle : Leaves t p k h f (collected (waited (rec t p k h f)) colours)
@@ -59,7 +62,7 @@ module _ (n g m c : ℕ) (desk : List Row) (fields colours : List ℕ) where
 
     -- a turn that works, with these numbers and colours
     step : (t' p' k' h' f' c' : ℕ) (cs : List ℕ) → Hold (numbers_ok (rec t' p' k' h' f')) → Colours cs → length cs ≡ length colours
-        → Leaves t p k h f (collected (record { answer = Worked; rec = record { n = n; g = g; m = m; stage = t'; place = p'; part = k'; hold = h'; found = f'; count = c' } }) cs)
+        → Leaves t p k h f (collected (record { answer = Ok Worked; rec = record { n = n; g = g; m = m; stage = t'; place = p'; part = k'; hold = h'; found = f'; count = c' } }) cs)
     unfolding fits place_ok part_ok hold_ok found_ok
     step t' p' k' h' f' c' cs e v l = record {
       mild = tt;
@@ -70,7 +73,7 @@ module _ (n g m c : ℕ) (desk : List Row) (fields colours : List ℕ) where
     wait_fine : (number next : ℕ) → Leaves t p k h f (collected (worked (entering (rec t p k h f) next)) colours)
         → Leaves t p k h f (collected (waiting (rec t p k h f) (survey number desk) next) colours)
     unfolding waiting survey row_ok
-    wait_fine number next on = refuse-clear (λ o. Leaves t p k h f (collected o colours)) _ _ _
+    wait_fine number next on = refuse-clear (λ r. Leaves t p k h f (collected (waiting (rec t p k h f) r next) colours)) _ _ _
         (inl (all_from status_ok fresh_row desk (λ w. (hold _ (R.rows w)).0)), tt) same (λ u. go (all (has_status number) desk))
       where
         go : (b : Bool) → Leaves t p k h f (collected (pick b (worked (entering (rec t p k h f) next)) (waited (rec t p k h f))) colours)
@@ -127,7 +130,7 @@ module _ (n g m c : ℕ) (desk : List Row) (fields colours : List ℕ) where
     -- parts 1, 3, 5, 7: field i goes to the hold
     hold_fine : (i : ℕ) → k ≢ 0 → k ≤ 8 → i < 4
         → (value_ok n (get_or fields (p * 4 + i) 0) ≡ true → hold_ok (rec 4 p (k + 1) (get_or fields (p * 4 + i) 0) f) ≡ true)
-        → Leaves 4 p k h f (refuse (barred (rec 4 p k h f) colours) ((value_ok n (get_or fields (p * 4 + i) 0), 2) ∷ []) (collected (worked (rec 4 p (k + 1) (get_or fields (p * 4 + i) 0) f)) colours))
+        → Leaves 4 p k h f (refuse (barred (rec 4 p k h f) colours) ((value_ok n (get_or fields (p * 4 + i) 0), BadNumber) ∷ []) (collected (worked (rec 4 p (k + 1) (get_or fields (p * 4 + i) 0) f)) colours))
     unfolding place_ok found_ok
     hold_fine i z b d ok = let v = value-at n fields (p * 4 + i) R.fields (omega (arith, (size 4 p k h f R).1, (in_part z).0)) in
         let e = R.numbers in

@@ -1,5 +1,5 @@
 -- The frame of a writer's turn on a store in range: a row in range is put back.
-use Rattle.std.specs.Prelude.{ℕ, ◌+◌, ◌*◌, ◌≤◌, ◌<◌, ◌≡◌, refl, true, List, leb, length, get_or, set}
+use Rattle.std.specs.Prelude.{ℕ, ◌+◌, ◌*◌, ◌≤◌, ◌<◌, ◌≡◌, refl, true, List, leb, length, get_or, set, None, Option}
 use Rattle.std.proofs.Common.{ap, arith, length-set}
 use Rattle.std.proofs.Math.Decide.{dec_lt}
 use Rattle.std.proofs.Math.ListN.{get_or-eq_default}
@@ -16,13 +16,14 @@ use Rattle.machine.specs.Turns.{refused, written, sound_ok}
 use Rattle.machine.specs.Gray.{grayed}
 use Rattle.machine.specs.Machine.{row_of}
 use Rattle.machine.specs.declared.Row.{Row}
-use Rattle.machine.specs.declared.Job.{Job}
-use Rattle.machine.specs.declared.Job.TheVariants.{Idle}
-use Rattle.machine.specs.declared.Answer.{Answer}
 use Rattle.runs.proofs.Abs.{set_all}
 use Rattle.runs.specs.Range.{Values, Colours, Mild}
 use Rattle.runs.proofs.Range.{record_ok_lem, value-at, grayed_in, grayed-length}
 use Rattle.runs.specs.RangeRow.{Sound, FineRow, FineQuiet}
+use Rattle.machine.specs.declared.Work.{Work}
+use Rattle.machine.specs.Answer.{Answered}
+use Rattle.machine.specs.Answer.{number}
+use Rattle.machine.specs.declared.Refusal.{Refusal}
 
 -- each value of a list in range, none past its end
 all-value : (n : ℕ) (l : List ℕ) → all (value_ok n) l ≡ true → Values n l
@@ -38,7 +39,7 @@ slots_set : (n : ℕ) (l : List ℕ) (i v : ℕ) → all (value_ok n) l ≡ true
 slots_set n l i v h e = all_from (value_ok n) none (set l i v) (set_all (λ x. value_ok n x ≡ true) l i v none (all-value n l h) e)
 
 -- a row whose job is over
-pub with_idle : (n : ℕ) (q : Row) → row_ok n q ≡ true → row_ok n (with_job q Idle) ≡ true
+pub with_idle : (n : ℕ) (q : Row) → row_ok n q ≡ true → row_ok n (with_job q None) ≡ true
 unfolding row_ok with_job status_ok job_ok
 with_idle n q e = let t = hold _ e in held _ (t.0, (t.1.0, (refl, tt)))
 
@@ -50,11 +51,11 @@ module _ {st : Store} {w : ℕ} (S : Sound st w) where
   row = row_of st w
 
   -- a refusal from 3 on
-  pub same : (k : ℕ) → 3 ≤ k → FineQuiet st w (refused row k)
+  pub same : (k : Refusal) → 3 ≤ number k → FineQuiet st w (refused row k)
   same k l = record { mild = l; after = rw (set-get_or st.desk w fresh_row) S.range }
 
   -- a row in range is put back, with fields and colours in range
-  pub put : (a : Answer) (r : Row) (fs cs : List ℕ) → Mild a → row_ok n r ≡ true → Values n fs → length fs ≡ length st.fields
+  pub put : (a : Answered) (r : Row) (fs cs : List ℕ) → Mild a → row_ok n r ≡ true → Values n fs → length fs ≡ length st.fields
       → Colours cs → length cs ≡ length st.colours → FineRow st w (written (record { answer = a; row = r }) fs cs)
   unfolding fits
   put a r fs cs ok e v lv c lc = record {
@@ -69,11 +70,11 @@ module _ {st : Store} {w : ℕ} (S : Sound st w) where
   }
 
   -- the row alone
-  pub put_quiet : (a : Answer) (r : Row) → Mild a → row_ok n r ≡ true → FineQuiet st w (record { answer = a; row = r })
+  pub put_quiet : (a : Answered) (r : Row) → Mild a → row_ok n r ≡ true → FineQuiet st w (record { answer = a; row = r })
   put_quiet a r ok e = put a r st.fields st.colours ok e S.range.fields refl S.range.colours refl
 
   -- the row, and a number grayed
-  pub put-gray : (a : Answer) (r : Row) (v : ℕ) → Mild a → row_ok n r ≡ true
+  pub put-gray : (a : Answered) (r : Row) (v : ℕ) → Mild a → row_ok n r ≡ true
       → FineRow st w (written (record { answer = a; row = r }) st.fields (grayed st.colours v))
   put-gray a r v ok e = put a r st.fields (grayed st.colours v) ok e S.range.fields refl (grayed_in st.colours v S.range.colours) (grayed-length st.colours v)
 
@@ -88,7 +89,7 @@ module _ {st : Store} {w : ℕ} (S : Sound st w) where
   slot_ok s l = row-slot n row s (S.range.rows w) (omega (arith, S.at.eight w))
 
   -- the row with a job, a slot or a status in range
-  pub with_job_lem : (j : Job) → job_ok n j ≡ true → row_ok n (with_job row j) ≡ true
+  pub with_job_lem : (j : Option Work) → job_ok n j ≡ true → row_ok n (with_job row j) ≡ true
   unfolding row_ok with_job status_ok
   with_job_lem j e = let t = hold _ (S.range.rows w) in held _ (t.0, (t.1.0, (e, tt)))
 

@@ -1,5 +1,5 @@
 -- A run from a fresh store stays in range, so no turn of it is refused with 1 or 2.
-use Rattle.std.specs.Prelude.{ℕ, ◌-◌, ◌+◌, ◌*◌, ◌≤◌, ◌<◌, ◌≡◌, refl, true, ◌≢◌, length, get_or, replicate}
+use Rattle.std.specs.Prelude.{ℕ, ◌-◌, ◌+◌, ◌*◌, ◌≤◌, ◌<◌, ◌≡◌, refl, true, ◌≢◌, length, get_or, replicate, Err}
 use Rattle.std.proofs.Common.{◌∙◌, ap, mul-le-mul_right, arith, length-append}
 use mathlib.Core.List.{List, [], ◌∷◌, ◌++◌}
 use Rattle.std.proofs.Math.Decide.{dec_lt}
@@ -13,7 +13,6 @@ use Rattle.machine.specs.Store.{Store, fresh_row, fits, fits_record, fresh}
 use Rattle.machine.specs.Range.{place_ok, part_ok, value_ok, hold_ok, found_ok, status_ok, colour_ok, job_ok, row_ok}
 use Rattle.machine.specs.Machine.{Turn, writer, collector, turn}
 use Rattle.machine.specs.Run.{run, C}
-use Rattle.machine.specs.declared.Answer.TheVariants.{Refused}
 use Rattle.runs.specs.Abs.{abs, Eight}
 use Rattle.runs.specs.Course.{Good}
 use Rattle.runs.proofs.Course.{turn-moves, same-each, start_is, good_turn, good-fresh, good}
@@ -22,6 +21,7 @@ use Rattle.runs.specs.Range.{numbers_ok, InRange, Fine}
 use Rattle.runs.proofs.Range.{mild-not}
 use Rattle.runs.proofs.RangeWriter.{write_fine}
 use Rattle.runs.proofs.RangeCollector.{collect_fine}
+use Rattle.machine.specs.declared.Refusal.TheVariants.{BadSize, BadNumber}
 
 -- any turn on a store in range
 turn_fine : (st : Store) → Eight st.desk → InRange st → st.rec.count < 4294967295 → (t : Turn) → Fine (turn t st)
@@ -99,7 +99,7 @@ module _ (n g m : ℕ) (e : limits_ok n g m ≡ true) where
   run_in_range turns = range-run cells pages begins turns (fresh n g m) (good-fresh n g m) (fresh-range n g m e pages begins)
 
   -- the last sentence of Demand3
-  pub stays_in_range : (turns : List Turn) (t : Turn) → ((turn t (run (fresh n g m) turns)).answer ≢ Refused 1) × ((turn t (run (fresh n g m) turns)).answer ≢ Refused 2)
+  pub stays_in_range : (turns : List Turn) (t : Turn) → ((turn t (run (fresh n g m) turns)).answer ≢ Err BadSize) × ((turn t (run (fresh n g m) turns)).answer ≢ Err BadNumber)
   stays_in_range turns t =
       let a = (fine_turn cells pages begins (run (fresh n g m) turns) (good n g m turns) (run_in_range turns) t).mild in
-      (mild-not _ 1 a (omega arith), mild-not _ 2 a (omega arith))
+      (mild-not _ BadSize a (omega arith), mild-not _ BadNumber a (omega arith))

@@ -1,8 +1,8 @@
 -- A writer's turn on a store in range leaves it in range, with neither refusal 1 nor 2.
-use Rattle.std.specs.Prelude.{ℕ, suc, ◌+◌, ◌*◌, ◌<◌, ◌≡◌, Bool, ◌≢◌, List, [], ◌∷◌, leb, eqb, length, set}
+use Rattle.std.specs.Prelude.{ℕ, suc, ◌+◌, ◌*◌, ◌<◌, ◌≡◌, Bool, List, [], ◌∷◌, leb, eqb, length, set, Some, None, Option, Result, Ok, Err, ◌≤◌}
 use Rattle.std.proofs.Math.Path.{refl}
 use Rattle.std.proofs.Math.Bool.{true, false}
-use Rattle.std.proofs.Common.{inl, inr, arith, length-set}
+use Rattle.std.proofs.Common.{inl, inr, arith, length-set, subst}
 use Rattle.std.proofs.Math.Decide.{dec_lt}
 use borrow.Author.Tests.{ltb-true, eqb-false, lt-ltb, le-ltb, le-leb, not-true}
 use Rattle.machine.specs.Choice.{pick}
@@ -27,10 +27,8 @@ use Rattle.machine.specs.declared.Plan.{Plan}
 use Rattle.machine.specs.declared.Plan.TheVariants.{FullRead, FullOld, FullNew, FullWrite, TracedRead, TracedOld, TracedWrite, BareWrite}
 use Rattle.machine.specs.declared.Look.{Look}
 use Rattle.machine.specs.declared.Look.TheVariants.{Ahead, Keep, White}
-use Rattle.machine.specs.declared.Room.{Room}
-use Rattle.machine.specs.declared.Room.TheVariants.{Free, Full, Bad}
-use Rattle.machine.specs.declared.Job.{Job}
-use Rattle.machine.specs.declared.Job.TheVariants.{Idle, Busy}
+use Rattle.machine.specs.declared.Refusal.{Refusal}
+use Rattle.machine.specs.Answer.{number}
 use Rattle.machine.specs.declared.Work.TheVariants.{Answering, Storing, Creating}
 use Rattle.machine.specs.declared.Call.{Call}
 use Rattle.runs.proofs.Refused.{refuse-clear}
@@ -41,6 +39,8 @@ use Rattle.runs.specs.RangeRow.{Sound, FineRow, FineQuiet}
 use Rattle.runs.proofs.RangeRow.{with_idle, same, put, put_quiet, put-gray, sound, slot_ok, with_job_lem, with_slot_lem, with_status_lem, field_ok, pages}
 use Rattle.runs.specs.Range.{Values, Colours, InRange, Fine}
 use Rattle.runs.proofs.Range.{cell_ok, gray_ok_lem}
+use Rattle.machine.specs.declared.Work.{Work}
+use Rattle.machine.specs.declared.Refusal.TheVariants.{NoTurn, Full}
 
 -- the posted number is a status
 posted_ok : (t : ℕ) → leb (posted t) 2 ≡ true
@@ -53,13 +53,13 @@ posted_ok t = go (eqb t 1) (eqb t 2)
     go false false = refl
 
 -- a byte above 3 is never met
-never_bad : (i : ℕ) (l : List ℕ) → Colours l → lowest_free i l ≢ Bad
+only_full : (i : ℕ) (l : List ℕ) (k : Refusal) → Colours l → lowest_free i l ≡ Err k → Full ≡ k
 unfolding lowest_free
-never_bad i [] h e = let z : ◌≡◌ {A = ℕ} 0 1 = cc in omega arith
-never_bad i (b ∷ bs) h e = go (eqb b 0) (never_bad (i + 1) bs (λ j. h (suc j))) (rw (h 0) at e)
+only_full i [] k h e = cc
+only_full i (b ∷ bs) k h e = go (eqb b 0) (only_full (i + 1) bs k (λ j. h (suc j))) (rw (h 0) at e)
   where
-    go : (t : Bool) → lowest_free (i + 1) bs ≢ Bad → pick t (Free i) (lowest_free (i + 1) bs) ≢ Bad
-    go true h e = let z : ◌≡◌ {A = ℕ} 0 1 = cc in omega arith
+    go : (t : Bool) → (lowest_free (i + 1) bs ≡ Err k → Full ≡ k) → pick t (Ok i) (lowest_free (i + 1) bs) ≡ Err k → Full ≡ k
+    go true h e = let z : ◌≡◌ {A = ℕ} 0 1 = cc in absurd (omega arith)
     go false h e = h e
 
 -- emptying a cell's fields leaves values, and as many
@@ -122,7 +122,7 @@ module _ {st : Store} {w : ℕ} (S : Sound st w) where
   answer_fine = refuse-clear (FineQuiet st w) _ _ _ (inl (sound S), (inr (omega arith), tt)) (same S) (λ t.
       refuse-clear (FineQuiet st w) _ _ _ (inr (omega arith), tt) (same S) (λ u. go (eqb (posted st.rec.stage) 0)))
     where
-      go : (z : Bool) → FineQuiet st w (pick z (more (with_job row (Busy (Answering 0)))) (done (with_status row (posted st.rec.stage))))
+      go : (z : Bool) → FineQuiet st w (pick z (more (with_job row (Some (Answering 0)))) (done (with_status row (posted st.rec.stage))))
       go true = put_quiet S _ _ tt (with_job_lem S _ refl)
       go false = put_quiet S _ _ tt (with_status_lem S _ (posted_ok st.rec.stage))
 
@@ -139,7 +139,7 @@ module _ {st : Store} {w : ℕ} (S : Sound st w) where
   -- ---- store
   -- the row with a store's job
   stored_ok_lem : (c f v o : ℕ) (p : Plan) → c < n → f < 4 → value_ok n v ≡ true → value_ok n o ≡ true
-      → row_ok n (with_job row (Busy (Storing (record { cell = c; field = f; new = v; old = o }) p))) ≡ true
+      → row_ok n (with_job row (Some (Storing (record { cell = c; field = f; new = v; old = o }) p))) ≡ true
   unfolding job_ok work_ok stored_ok
   stored_ok_lem c f v o p l d e q = with_job_lem S _ (held _ (lt-ltb c n l, (lt-ltb f 4 d, (e, (q, tt)))))
 
@@ -184,16 +184,15 @@ module _ {st : Store} {w : ℕ} (S : Sound st w) where
 
   -- ---- create
   -- the row with a creation's job
-  made_ok_lem : (s c : ℕ) (l : Look) → s < 8 → c < n → row_ok n (with_job row (Busy (Creating (record { slot = s; cell = c; look = l })))) ≡ true
+  made_ok_lem : (s c : ℕ) (l : Look) → s < 8 → c < n → row_ok n (with_job row (Some (Creating (record { slot = s; cell = c; look = l })))) ≡ true
   unfolding job_ok work_ok made_ok
   made_ok_lem s c l d e = with_job_lem S _ (held _ (lt-ltb s 8 d, (lt-ltb c n e, tt)))
 
   -- the first turn, by what the look for a free cell finds
-  take_fine : (s : ℕ) → s < 8 → (r : Room) → lowest_free 0 st.colours ≡ r → FineRow st w (take row st.fields st.colours s r)
+  take_fine : (s : ℕ) → s < 8 → (r : Result ℕ Refusal) → lowest_free 0 st.colours ≡ r → FineRow st w (take row st.fields st.colours s r)
   unfolding take take_cell colour_ok
-  take_fine s l Full q = same S 7 (omega arith)
-  take_fine s l Bad q = absurd (never_bad 0 st.colours S.range.colours q)
-  take_fine s l (Free c) q = let k = free_is 0 st.colours c q in
+  take_fine s l (Err k) q = same S k (subst (λ k. 3 ≤ number k) (only_full 0 st.colours k S.range.colours q) (omega arith))
+  take_fine s l (Ok c) q = let k = free_is 0 st.colours c q in
       put S _ _ _ _ tt (made_ok_lem s c Ahead l (omega (arith, k.1, k.2, S.at.fit.colours)))
       (emptied_in n st.fields c S.range.fields) (emptied-length st.fields c)
       (set_all (λ x. colour_ok x ≡ true) st.colours c 3 3 S.range.colours refl) (length-set st.colours c 3)
@@ -214,12 +213,12 @@ module _ {st : Store} {w : ℕ} (S : Sound st w) where
 
   -- ---- next, and the call by its name
   -- next, by the job
-  job_fine : (j : Job) → job_ok n j ≡ true → FineRow st w (next_job st.rec row st.fields st.colours j)
+  job_fine : (j : Option Work) → job_ok n j ≡ true → FineRow st w (next_job st.rec row st.fields st.colours j)
   unfolding next_job next_work job_ok work_ok stored_ok made_ok
-  job_fine Idle e = same S 5 (omega arith)
-  job_fine (Busy (Answering k)) e = answering_fine k
-  job_fine (Busy (Storing s p)) e = let t = hold _ e in storing_fine s (ltb-true _ _ t.0) (ltb-true _ _ t.1.0) t.1.1.0 t.1.1.1.0 p
-  job_fine (Busy (Creating m)) e = let t = hold _ e in creating_fine m m.look (ltb-true _ _ t.0) (ltb-true _ _ t.1.0)
+  job_fine None e = same S NoTurn (omega arith)
+  job_fine (Some (Answering k)) e = answering_fine k
+  job_fine (Some (Storing s p)) e = let t = hold _ e in storing_fine s (ltb-true _ _ t.0) (ltb-true _ _ t.1.0) t.1.1.0 t.1.1.1.0 p
+  job_fine (Some (Creating m)) e = let t = hold _ e in creating_fine m m.look (ltb-true _ _ t.0) (ltb-true _ _ t.1.0)
 
   next_fine : FineRow st w (next st.rec row st.fields st.colours)
   unfolding next

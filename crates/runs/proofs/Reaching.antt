@@ -1,5 +1,5 @@
 -- What is reachable in the machine's store is what is reached in the store of moves.
-use Rattle.std.specs.Prelude.{ℕ, zero, suc, ◌+◌, ◌*◌, ◌≤◌, ◌<◌, ◌≡◌, refl, ◌⊎◌, length, get_or}
+use Rattle.std.specs.Prelude.{ℕ, zero, suc, ◌+◌, ◌*◌, ◌≤◌, ◌<◌, ◌≡◌, refl, ◌⊎◌, length, get_or, Some, None, Option}
 use Rattle.std.proofs.Common.{sym, ◌∙◌, inl, inr, arith, lt-ltb}
 use Rattle.moves.specs.Rows.{job_name}
 use Rattle.moves.specs.Invariant.{Inv}
@@ -7,35 +7,34 @@ use Rattle.moves.specs.Reach as R
 use Rattle.machine.specs.Limits.{none}
 use Rattle.machine.specs.Store.{Store}
 use Rattle.machine.specs.Machine.{row_of}
-use Rattle.machine.specs.declared.Job.{Job}
-use Rattle.machine.specs.declared.Job.TheVariants.{Idle, Busy}
 use Rattle.machine.specs.declared.Work.TheVariants.{Answering, Storing, Creating}
 use Rattle.runs.specs.Abs.{stage_in, abs_job, abs_fields, abs}
 use Rattle.runs.specs.Demand3.{carried, Reachable, page, slot, job, field}
+use Rattle.machine.specs.declared.Work.{Work}
 
 -- ---- the numbers that a job carries
 -- what it carries it names
-carried-name : (j : Job) (k : ℕ) → k < length (carried j) → get_or (carried j) k none ≡ job_name (abs_job j) k
-carried-name Idle k l = absurd (omega arith)
-carried-name (Busy (Answering i)) k l = absurd (omega arith)
-carried-name (Busy (Creating c)) zero l = refl
-carried-name (Busy (Creating c)) (suc k) l = absurd (omega arith)
-carried-name (Busy (Storing s p)) zero l = refl
-carried-name (Busy (Storing s p)) (suc zero) l = refl
-carried-name (Busy (Storing s p)) (suc (suc zero)) l = refl
-carried-name (Busy (Storing s p)) (suc (suc (suc k))) l = absurd (omega arith)
+carried-name : (j : Option Work) (k : ℕ) → k < length (carried j) → get_or (carried j) k none ≡ job_name (abs_job j) k
+carried-name None k l = absurd (omega arith)
+carried-name (Some (Answering i)) k l = absurd (omega arith)
+carried-name (Some (Creating c)) zero l = refl
+carried-name (Some (Creating c)) (suc k) l = absurd (omega arith)
+carried-name (Some (Storing s p)) zero l = refl
+carried-name (Some (Storing s p)) (suc zero) l = refl
+carried-name (Some (Storing s p)) (suc (suc zero)) l = refl
+carried-name (Some (Storing s p)) (suc (suc (suc k))) l = absurd (omega arith)
 
-abbrev Named : Job → ℕ → Type 0
+abbrev Named : Option Work → ℕ → Type 0
 Named j v = (v ≡ none) ⊎ ((i : ℕ) × (i < length (carried j)) × (v ≡ get_or (carried j) i none))
 
 -- what it names it carries, but for none
-name-carried : (j : Job) (k : ℕ) → Named j (job_name (abs_job j) k)
-name-carried Idle k = inl refl
-name-carried (Busy (Answering i)) k = inl refl
-name-carried (Busy (Creating c)) k = inr (0, omega arith, refl)
-name-carried (Busy (Storing s p)) zero = inr (0, omega arith, refl)
-name-carried (Busy (Storing s p)) (suc zero) = inr (1, omega arith, refl)
-name-carried (Busy (Storing s p)) (suc (suc k)) = inr (2, omega arith, refl)
+name-carried : (j : Option Work) (k : ℕ) → Named j (job_name (abs_job j) k)
+name-carried None k = inl refl
+name-carried (Some (Answering i)) k = inl refl
+name-carried (Some (Creating c)) k = inr (0, omega arith, refl)
+name-carried (Some (Storing s p)) zero = inr (0, omega arith, refl)
+name-carried (Some (Storing s p)) (suc zero) = inr (1, omega arith, refl)
+name-carried (Some (Storing s p)) (suc (suc k)) = inr (2, omega arith, refl)
 
 module _ (st : Store) where
   field_is : (x f : ℕ) → f < 4 → get_or st.fields (x * 4 + f) none ≡ abs_fields st.fields x f

@@ -1,5 +1,5 @@
 -- Store, and the turns of its job.
-use Rattle.std.specs.Prelude.{ℕ, zero, suc, ◌<◌, ◌≡◌}
+use Rattle.std.specs.Prelude.{ℕ, zero, suc, ◌<◌, ◌≡◌, Some, None}
 use Rattle.std.proofs.Math.Path.{refl, ap}
 use Rattle.std.proofs.Common.{◌∙◌, arith}
 use Rattle.std.proofs.Math.Logic.{inl}
@@ -21,7 +21,6 @@ use Rattle.machine.specs.declared.Row.{Row}
 use Rattle.machine.specs.declared.Stored.{Stored}
 use Rattle.machine.specs.declared.Plan.{Plan}
 use Rattle.machine.specs.declared.Plan.TheVariants.{FullRead, FullOld, FullNew, FullWrite, TracedRead, TracedOld, TracedWrite, BareWrite}
-use Rattle.machine.specs.declared.Job.TheVariants.{Idle, Busy}
 use Rattle.machine.specs.declared.Work.TheVariants.{Storing}
 use Rattle.runs.specs.Abs.{stage_at, stage_in, abs_stored, abs_job, abs}
 use Rattle.runs.proofs.Abs.{abs-grayed, abs-rows, abs-field, field_in}
@@ -91,7 +90,7 @@ module _ {st : Store} {w : ℕ} (H : At st w) where
         count = st.rec.count;
         colour = λ i. get_or st.colours i 3;
         field = abs-field st.fields s.cell s.field s.new d (omega (arith, H.fit.fields)) i;
-        rows = abs-rows st.desk w (with_job row Idle) (in_desk H) i;
+        rows = abs-rows st.desk w (with_job row None) (in_desk H) i;
       }),
       refl,
       refl,
@@ -124,7 +123,7 @@ module _ {st : Store} {w : ℕ} (H : At st w) where
     ))
 
     -- the turns of each plan
-    pub storing-moves : (p : Plan) → row.job ≡ Busy (Storing s p) → Wrote st w (next_storing st.rec.n row st.fields st.colours s p)
+    pub storing-moves : (p : Plan) → row.job ≡ Some (Storing s p) → Wrote st w (next_storing st.rec.n row st.fields st.colours s p)
     unfolding next_storing
     storing-moves FullRead e = read-turn FullOld Abstract.full (λ o. refl) (ap abs_job e)
     storing-moves FullOld e = old-turn FullNew Abstract.full refl (ap abs_job e)

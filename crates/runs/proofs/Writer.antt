@@ -1,5 +1,5 @@
 -- Next, and a writer's call by its name: each is one move, or changes nothing.
-use Rattle.std.specs.Prelude.{ℕ, ◌≡◌, true}
+use Rattle.std.specs.Prelude.{ℕ, ◌≡◌, true, Some, None, Option}
 use Rattle.std.proofs.Math.Path.{refl}
 use Rattle.std.proofs.Common.{inr, ltb-true, leb-true}
 use Rattle.machine.specs.ChoiceLaws.{hold, refuse-cases}
@@ -9,8 +9,6 @@ use Rattle.machine.specs.RangeLaws.{sound-row, row-job}
 use Rattle.machine.specs.Writer.{next_work, next_job, next, turn_of}
 use Rattle.machine.specs.Machine.{row_of, write}
 use Rattle.machine.specs.declared.Row.{Row}
-use Rattle.machine.specs.declared.Job.{Job}
-use Rattle.machine.specs.declared.Job.TheVariants.{Idle, Busy}
 use Rattle.machine.specs.declared.Work.TheVariants.{Answering, Storing, Creating}
 use Rattle.machine.specs.declared.Call.{Call}
 use Rattle.runs.specs.Abs.{Eight, Steps}
@@ -21,18 +19,20 @@ use Rattle.runs.proofs.Slots.{page-moves, copy_moves, drop-moves, read-moves}
 use Rattle.runs.proofs.Answering.{answer-moves, answering-moves}
 use Rattle.runs.proofs.Storing.{store-moves, storing-moves}
 use Rattle.runs.proofs.Creating.{create-moves, creating-moves}
+use Rattle.machine.specs.declared.Work.{Work}
+use Rattle.machine.specs.declared.Refusal.TheVariants.{NoTurn}
 
 module _ {st : Store} {w : ℕ} (H : At st w) where
   abbrev row : Row
   row = row_of st w
 
   -- next, by the job
-  job-moves : (j : Job) → row.job ≡ j → job_ok st.rec.n j ≡ true → Wrote st w (next_job st.rec row st.fields st.colours j)
+  job-moves : (j : Option Work) → row.job ≡ j → job_ok st.rec.n j ≡ true → Wrote st w (next_job st.rec row st.fields st.colours j)
   unfolding next_job next_work job_ok work_ok stored_ok made_ok
-  job-moves Idle e o = put_same st w 5
-  job-moves (Busy (Answering k)) e o = answering-moves H k e (leb-true _ _ o)
-  job-moves (Busy (Storing s p)) e o = let t = hold _ o in storing-moves H s (ltb-true _ _ t.0) (ltb-true _ _ t.1.0) p e
-  job-moves (Busy (Creating m)) e o = let t = hold _ o in
+  job-moves None e o = put_same st w NoTurn
+  job-moves (Some (Answering k)) e o = answering-moves H k e (leb-true _ _ o)
+  job-moves (Some (Storing s p)) e o = let t = hold _ o in storing-moves H s (ltb-true _ _ t.0) (ltb-true _ _ t.1.0) p e
+  job-moves (Some (Creating m)) e o = let t = hold _ o in
       creating-moves H m.slot m.cell m.look (ltb-true _ _ t.0) (ltb-true _ _ t.1.0) e
 
   -- next, after its refusal 2

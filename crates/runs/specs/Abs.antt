@@ -1,5 +1,5 @@
 -- The machine's store as a store of moves, and what a turn leaves of it.
-use Rattle.std.specs.Prelude.{ℕ, zero, suc, ◌+◌, ◌*◌, ◌≡◌, cond, ◌⊎◌, List, ltb, length, get_or}
+use Rattle.std.specs.Prelude.{ℕ, zero, suc, ◌+◌, ◌*◌, ◌≡◌, cond, ◌⊎◌, List, ltb, length, get_or, Some, None, Option}
 use Rattle.moves.specs.Moves.{work}
 use Rattle.moves.specs.Machine as Abstract
 use Rattle.moves.specs.Moves.{Move, stage', after}
@@ -14,10 +14,9 @@ use Rattle.machine.specs.declared.Plan.{Plan}
 use Rattle.machine.specs.declared.Plan.TheVariants.{FullRead, FullOld, FullNew, FullWrite, TracedRead, TracedOld, TracedWrite, BareWrite}
 use Rattle.machine.specs.declared.Look.{Look}
 use Rattle.machine.specs.declared.Look.TheVariants.{Ahead, Keep, White}
-use Rattle.machine.specs.declared.Job.{Job}
-use Rattle.machine.specs.declared.Job.TheVariants.{Idle, Busy}
 use Rattle.machine.specs.declared.Work.TheVariants.{Answering, Storing, Creating}
-use Rattle.machine.specs.declared.Answer.{Answer}
+use Rattle.machine.specs.declared.Work.{Work}
+use Rattle.machine.specs.Answer.{Answered}
 
 -- ---- the store as a store of moves
 -- the record's stage with the numbers that the stage uses
@@ -64,11 +63,11 @@ abbrev pub abs_stored : Stored → Plan → Abstract.Job
 abs_stored s p = Abstract.storing (plan_in p) (phase_in p) s.cell s.field s.new s.old
 
 -- a job
-abbrev pub abs_job : Job → Abstract.Job
-abs_job Idle = Abstract.idle
-abs_job (Busy (Answering k)) = Abstract.answering k
-abs_job (Busy (Storing s p)) = abs_stored s p
-abs_job (Busy (Creating m)) = Abstract.creating (abs_look m.look) m.cell m.slot
+abbrev pub abs_job : Option Work → Abstract.Job
+abs_job None = Abstract.idle
+abs_job (Some (Answering k)) = Abstract.answering k
+abs_job (Some (Storing s p)) = abs_stored s p
+abs_job (Some (Creating m)) = Abstract.creating (abs_look m.look) m.cell m.slot
 
 -- a row; past the eighth slot there is none
 abbrev pub abs_row : Row → Abstract.Row
@@ -102,11 +101,11 @@ Eight d = (w : ℕ) → length (get_or d w fresh_row).slots ≡ 8
 
 -- ---- what a turn leaves
 -- one move, a working one if the answer is worked
-abbrev pub Moved : Store → Outcome Answer → Type 0
+abbrev pub Moved : Store → Outcome Answered → Type 0
 Moved st o =
     (mv : Move (abs st) (stage_in st.rec)) × (abs o.store ≡ after mv) × (stage_in o.store.rec ≡ stage' mv)
     × (work mv ≡ works o.answer) × Eight o.store.desk
 
 -- one move, or everything as it was
-abbrev pub Steps : Store → Outcome Answer → Type 0
+abbrev pub Steps : Store → Outcome Answered → Type 0
 Steps st o = Moved st o ⊎ ((o.store ≡ st) × (works o.answer ≡ 0))

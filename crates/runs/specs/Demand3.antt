@@ -1,23 +1,23 @@
 -- DEMAND 3, over the machine's own definition: `fresh n g m` is the store that start fills for n cells, g pages and m writers,
 -- `run st turns` the store after these turns, `C n g` the bound. A `Turn` is any writer's call, or the collector's.
-use Rattle.std.specs.Prelude.{ℕ, ◌+◌, ◌*◌, ◌≤◌, ◌<◌, ◌≡◌, true, ◌≢◌, List, [], ◌∷◌, ◌++◌, length, get_or}
+use Rattle.std.specs.Prelude.{ℕ, ◌+◌, ◌*◌, ◌≤◌, ◌<◌, ◌≡◌, true, ◌≢◌, List, [], ◌∷◌, ◌++◌, length, get_or, Some, None, Option, Err, Ok}
 use Rattle.machine.specs.Limits.{none, limits_ok}
 use Rattle.machine.specs.Store.{Store, Outcome, fresh}
 use Rattle.machine.specs.Machine.{Turn, writer, turn, row_of}
 use Rattle.machine.specs.Run.{run, working_turns, since_opening, C}
-use Rattle.machine.specs.declared.Job.{Job}
-use Rattle.machine.specs.declared.Job.TheVariants.{Idle, Busy}
 use Rattle.machine.specs.declared.Work.TheVariants.{Answering, Storing, Creating}
 use Rattle.machine.specs.declared.Call.{Call}
-use Rattle.machine.specs.declared.Answer.{Answer}
-use Rattle.machine.specs.declared.Answer.TheVariants.{More, Refused}
+use Rattle.machine.specs.declared.Work.{Work}
+use Rattle.machine.specs.Answer.{Answered}
+use Rattle.machine.specs.declared.Answer.TheVariants.{More}
+use Rattle.machine.specs.declared.Refusal.TheVariants.{BadSize, BadNumber}
 
 -- the cell numbers that a job carries
-abbrev pub carried : Job → List ℕ
-carried Idle = []
-carried (Busy (Answering k)) = []
-carried (Busy (Storing s p)) = s.cell ∷ s.new ∷ s.old ∷ []
-carried (Busy (Creating m)) = m.cell ∷ []
+abbrev pub carried : Option Work → List ℕ
+carried None = []
+carried (Some (Answering k)) = []
+carried (Some (Storing s p)) = s.cell ∷ s.new ∷ s.old ∷ []
+carried (Some (Creating m)) = m.cell ∷ []
 
 -- reachable: a page; what a slot holds; what a job carries; what a field of a reachable cell holds (none, 65,535, is no cell)
 pub data Reachable (st : Store) : ℕ → Type 0 where
@@ -31,11 +31,11 @@ abbrev pub Free : Store → ℕ → Type 0
 Free st x = get_or st.colours x 3 ≡ 0
 
 -- writer w's create into slot s begins a creation, and x is the cell that it takes
-abbrev pub creates : Store → ℕ → ℕ → Outcome Answer
+abbrev pub creates : Store → ℕ → ℕ → Outcome Answered
 creates st w s = turn (writer w (Call.Create s)) st
 
 abbrev pub Takes : Store → ℕ → ℕ → ℕ → Type 0
-Takes st w s x = ((creates st w s).answer ≡ More) × (carried (row_of (creates st w s).store w).job ≡ x ∷ [])
+Takes st w s x = ((creates st w s).answer ≡ Ok More) × (carried (row_of (creates st w s).store w).job ≡ x ∷ [])
 
 -- what is asked of a store `new` of n cells and g pages that start has just filled, for every list of turns after it
 pub record Holds (n g : ℕ) (new : Store) : Type 0 where
@@ -52,7 +52,7 @@ pub record Holds (n g : ℕ) (new : Store) : Type 0 where
   pub cycle : (turns : List Turn) → since_opening 0 new turns ≤ C n g
   pub count : (turns : List Turn) → (run new turns).rec.count ≡ since_opening 0 new turns
   -- "In range": no turn is refused for the numbers of the store, 1, or for a number out of range, 2
-  pub in_range : (turns : List Turn) (t : Turn) → ((turn t (run new turns)).answer ≢ Refused 1) × ((turn t (run new turns)).answer ≢ Refused 2)
+  pub in_range : (turns : List Turn) (t : Turn) → ((turn t (run new turns)).answer ≢ Err BadSize) × ((turn t (run new turns)).answer ≢ Err BadNumber)
 
 -- "From a fresh store changed only by these calls, each lent this store's own parts, no second start among them, in every order"
 abbrev pub Demand3 : Type 0

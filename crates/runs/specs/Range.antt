@@ -1,13 +1,14 @@
 -- A store in range, and an outcome with neither refusal 1 nor 2, in range.
-use Rattle.std.specs.Prelude.{ℕ, ◌≤◌, ◌≡◌, Bool, true, List, [], ◌∷◌, leb, get_or}
+use Rattle.std.specs.Prelude.{ℕ, ◌≤◌, ◌≡◌, Bool, true, List, [], ◌∷◌, leb, get_or, Err, Ok}
 use Rattle.machine.specs.ChoiceLaws.{Hold}
 use Rattle.machine.specs.Limits.{none}
 use Rattle.machine.specs.Store.{Store, Outcome, fits_record}
 use Rattle.machine.specs.Range.{place_ok, part_ok, value_ok, hold_ok, found_ok, colour_ok, row_ok}
 use Rattle.machine.specs.Machine.{row_of}
 use Rattle.machine.specs.declared.Record.{Record}
-use Rattle.machine.specs.declared.Answer.{Answer}
-use Rattle.machine.specs.declared.Answer.TheVariants.{Done, More, Worked, Waited, Refused}
+use Rattle.machine.specs.Answer.{Answered}
+use Rattle.machine.specs.declared.Answer.TheVariants.{Done, More, Worked, Waited}
+use Rattle.machine.specs.Answer.{number}
 
 -- ---- a store in range
 -- the record's tests, but for the count
@@ -31,14 +32,14 @@ pub record InRange (st : Store) : Type 0 where
 
 -- ---- an outcome with neither refusal 1 nor 2, in range
 -- no refusal, or one from 3 on
-abbrev pub Mild : Answer → Type 0
-Mild Done = Unit {0}
-Mild More = Unit {0}
-Mild Worked = Unit {0}
-Mild Waited = Unit {0}
-Mild (Refused k) = 3 ≤ k
+abbrev pub Mild : Answered → Type 0
+Mild (Ok Done) = Unit {0}
+Mild (Ok More) = Unit {0}
+Mild (Ok Worked) = Unit {0}
+Mild (Ok Waited) = Unit {0}
+Mild (Err k) = 3 ≤ number k
 
 -- such an answer, and a store in range
-pub record Fine (o : Outcome Answer) : Type 0 where
+pub record Fine (o : Outcome Answered) : Type 0 where
   pub mild : Mild o.answer
   pub after : InRange o.store

@@ -3,7 +3,7 @@ use Rattle.std.specs.Prelude.{ℕ, ◌<◌}
 use Rattle.machine.specs.Store.{Store}
 use Rattle.machine.specs.Turns.{Written, written}
 use Rattle.machine.specs.Machine.{put_row}
-use Rattle.machine.specs.declared.WriterTurn.{WriterTurn}
+use Rattle.machine.specs.Turns.{RowTurn}
 use Rattle.runs.specs.Frame.{At}
 use Rattle.runs.specs.Range.{InRange, Fine}
 
@@ -17,5 +17,5 @@ pub record Sound (st : Store) (w : ℕ) : Type 0 where
 abbrev pub FineRow : Store → ℕ → Written → Type 0
 FineRow st w o = Fine (put_row st w o)
 
-abbrev pub FineQuiet : Store → ℕ → WriterTurn → Type 0
+abbrev pub FineQuiet : Store → ℕ → RowTurn → Type 0
 FineQuiet st w t = FineRow st w (written t st.fields st.colours)

@@ -1,16 +1,16 @@
 -- What a program may rely on that starts a store and from then on changes it by the public calls alone.
-use Rattle.std.specs.Prelude.{ℕ, ◌*◌, ◌≤◌, ◌<◌, ◌≡◌, ◌≢◌, List, [], ◌∷◌, ◌++◌}
+use Rattle.std.specs.Prelude.{ℕ, ◌*◌, ◌≤◌, ◌<◌, ◌≡◌, ◌≢◌, List, [], ◌∷◌, ◌++◌, Err}
 use Rattle.machine.specs.Store.{Store}
 use Rattle.machine.specs.Machine.{Turn, turning, Meets}
 use Rattle.machine.specs.Run.{working_turns, C}
-use Rattle.machine.specs.declared.Answer.{Answer}
-use Rattle.machine.specs.declared.Answer.TheVariants.{Refused}
 use Rattle.runs.specs.Demand3.{Reachable, Free, Takes}
+use Rattle.machine.specs.Answer.{Answered}
+use Rattle.machine.specs.declared.Refusal.TheVariants.{BadSize, BadNumber}
 
 -- these turns, each call of which met its contract, led from one memory to the other
 pub data Played : Store → List Turn → Store → Type 0 where
   stay : {st : Store} → Played st [] st
-  call : {st next after : Store} {ts : List Turn} (t : Turn) (a : Answer) → Meets (turning t) st a next → Played next ts after → Played st (t ∷ ts) after
+  call : {st next after : Store} {ts : List Turn} (t : Turn) (a : Answered) → Meets (turning t) st a next → Played next ts after → Played st (t ∷ ts) after
 
 -- what such a program may rely on, from the memory `new` that a start has filled
 pub record Promised (n g : ℕ) (new : Store) : Type 0 where
@@ -25,4 +25,4 @@ pub record Promised (n g : ℕ) (new : Store) : Type 0 where
   -- the count never passes C
   pub bounded : (ts : List Turn) (now : Store) → Played new ts now → now.rec.count ≤ C n g
   -- no call is refused with 1 or 2
-  pub in_range : (ts : List Turn) (now : Store) → Played new ts now → (t : Turn) (a : Answer) (after : Store) → Meets (turning t) now a after → (a ≢ Refused 1) × (a ≢ Refused 2)
+  pub in_range : (ts : List Turn) (now : Store) → Played new ts now → (t : Turn) (a : Answered) (after : Store) → Meets (turning t) now a after → (a ≢ Err BadSize) × (a ≢ Err BadNumber)

@@ -2,97 +2,94 @@
 // who made it, and what it answered. Then the colours, and the most turns that a cycle of this store, and of the largest, takes.
 #![tactic(auto)]
 
-use machine::{Answer, Call, Job, Record, Row};
+use machine::{Answer, Call, Record, Refusal, Row};
 use moves::cycle_bound;
 use std::io;
-use turn::kept::{Kept, collect_kept, start_kept, write_kept};
 
 const NONE: u16 = 65535;
 
-// Memory as it comes: start fills it.
-fn blank() -> Kept {
-    let row = Row {
-        status: 0,
-        slots: [NONE; 8],
-        job: Job::Idle,
-    };
-    Kept {
-        answer: Answer::Waited,
-        rec: Record {
-            n: 0,
-            g: 0,
-            m: 0,
-            stage: 0,
-            place: 0,
-            part: 0,
-            hold: NONE,
-            found: 0,
-            count: 0,
-        },
-        rows: [row; 8],
-    }
+// The memory of two cells, one page and one writer.
+#[derive(Drop)]
+struct Site {
+    rec: Record,
+    desk: [Row; 1],
+    fields: [u16; 8],
+    colours: [u8; 2],
 }
 
-fn say(rt: &impl Print, answer: Answer) -> io::Result<()> {
+fn say(rt: &impl Print, who: &str, answer: Result<Answer, Refusal>) -> io::Result<()> {
     match answer {
-        Answer::Done => println!(rt; "done"),
-        Answer::More => println!(rt; "more"),
-        Answer::Worked => println!(rt; "worked"),
-        Answer::Waited => println!(rt; "waited"),
-        Answer::Refused(k) => println!(rt; "refused {k}"),
+        Ok(answer) => println!(rt; "{who} {answer}"),
+        Err(refusal) => println!(rt; "{who} {refusal}"),
     }
 }
 
-// A turn of writer 0.
-fn writes(
-    rt: &impl Print,
-    site: Kept,
-    fields: &mut [u16],
-    colours: &mut [u8],
-    call: Call,
-) -> io::Result<Kept> {
-    let rows = site.rows;
-    let next = write_kept(site.rec, rows, fields, colours, 0, call);
-    print!(rt; "writer ")?;
-    say(rt, next.answer)?;
-    Ok(next)
-}
-
-// So many turns of the collector.
-fn collects(
-    rt: &impl Print,
-    site: Kept,
-    fields: &[u16],
-    colours: &mut [u8],
-    turns: u64,
-) -> io::Result<Kept> {
-    let mut now = site;
-    for _ in 0..turns {
-        let rows = now.rows;
-        now = collect_kept(now.rec, rows, fields, colours);
-        print!(rt; "collector ")?;
-        say(rt, now.answer)?;
+impl Site {
+    // Memory as it comes: start fills it.
+    fn blank() -> Site {
+        Site {
+            rec: Record {
+                n: 0,
+                g: 0,
+                m: 0,
+                stage: 0,
+                place: 0,
+                part: 0,
+                hold: NONE,
+                found: 0,
+                count: 0,
+            },
+            desk: [Row {
+                status: 0,
+                slots: [NONE; 8],
+                job: None,
+            }],
+            fields: [0; 8],
+            colours: [9; 2],
+        }
     }
-    Ok(now)
-}
 
-// So many turns in which writer 0 goes on with its job.
-fn nexts(
-    rt: &impl Print,
-    site: Kept,
-    fields: &mut [u16],
-    colours: &mut [u8],
-    turns: u64,
-) -> io::Result<Kept> {
-    let mut now = site;
-    for _ in 0..turns {
-        now = writes(rt, now, fields, colours, Call::Next)?;
+    fn start(&mut self) -> Result<Answer, Refusal> {
+        turn::start(
+            2,
+            1,
+            1,
+            &mut self.rec,
+            &mut self.desk,
+            &mut self.fields,
+            &mut self.colours,
+        )
     }
-    Ok(now)
-}
 
-fn wide(x: u8) -> u64 {
-    u64::from(x)
+    // A turn of writer 0.
+    fn writes(&mut self, rt: &impl Print, call: Call) -> io::Result<()> {
+        let answer = turn::write(
+            &self.rec,
+            &mut self.desk,
+            &mut self.fields,
+            &mut self.colours,
+            0,
+            call,
+        );
+        say(rt, "writer", answer)
+    }
+
+    // So many turns in which writer 0 goes on with its job.
+    fn nexts(&mut self, rt: &impl Print, turns: u64) -> io::Result<()> {
+        for _ in 0..turns {
+            self.writes(rt, Call::Next)?;
+        }
+        Ok(())
+    }
+
+    // So many turns of the collector.
+    fn collects(&mut self, rt: &impl Print, turns: u64) -> io::Result<()> {
+        for _ in 0..turns {
+            let answer = turn::collect(&mut self.rec, &self.desk, &self.fields, &mut self.colours);
+            say(rt, "collector", answer)?;
+        }
+        Ok(())
+    }
 }
 
 fn bound(rt: &impl Print, n: u16, g: u16) -> io::Result<()> {
@@ -100,28 +97,23 @@ fn bound(rt: &impl Print, n: u16, g: u16) -> io::Result<()> {
 }
 
 fn main(rt: HostRuntime) -> io::Result<()> {
-    let mut fields = [0u16; 8];
-    let mut colours = [9u8; 2];
-    let fresh = blank();
-    let rows = fresh.rows;
-    let mut site = start_kept(2, 1, 1, fresh.rec, rows, &mut fields, &mut colours);
-    site = writes(&rt, site, &mut fields, &mut colours, Call::Create(0))?;
-    site = nexts(&rt, site, &mut fields, &mut colours, 2)?;
-    site = writes(&rt, site, &mut fields, &mut colours, Call::Drop(0))?;
-    site = collects(&rt, site, &fields, &mut colours, 2)?;
-    site = writes(&rt, site, &mut fields, &mut colours, Call::Answer)?;
-    site = collects(&rt, site, &fields, &mut colours, 1)?;
-    site = writes(&rt, site, &mut fields, &mut colours, Call::Answer)?;
-    site = collects(&rt, site, &fields, &mut colours, 1)?;
-    site = writes(&rt, site, &mut fields, &mut colours, Call::Answer)?;
-    site = nexts(&rt, site, &mut fields, &mut colours, 9)?;
-    site = collects(&rt, site, &fields, &mut colours, 20)?;
-    println!(rt;
-        "{} turns, colours {} {}",
-        site.rec.count,
-        wide(colours[0]),
-        wide(colours[1])
-    )?;
+    let mut site = Site::blank();
+    if let Err(refusal) = site.start() {
+        return println!(rt; "start {refusal}");
+    }
+    site.writes(&rt, Call::Create(0))?;
+    site.nexts(&rt, 2)?;
+    site.writes(&rt, Call::Drop(0))?;
+    site.collects(&rt, 2)?;
+    site.writes(&rt, Call::Answer)?;
+    site.collects(&rt, 1)?;
+    site.writes(&rt, Call::Answer)?;
+    site.collects(&rt, 1)?;
+    site.writes(&rt, Call::Answer)?;
+    site.nexts(&rt, 9)?;
+    site.collects(&rt, 20)?;
+    let [page, cell] = site.colours;
+    println!(rt; "{} turns, colours {page} {cell}", site.rec.count)?;
     bound(&rt, 2, 1)?;
     bound(&rt, 4096, 16)
 }

@@ -1,14 +1,9 @@
--- A start whose parts are known by equations is known: what `start_core` concludes by.
-use Rattle.std.specs.Prelude.{◌≡◌, ℕ, Bool, List}
-use Rattle.machine.specs.declared.Record.{Record}
-use Rattle.machine.specs.declared.Answer.{Answer}
-use Rattle.turn.specs.Lent.{started, begun}
-use Rattle.turn.specs.declared.Started.{Started}
+-- The colours of a fresh store: all cells free, and then the pages white.
+use Rattle.std.specs.Prelude.{◌≡◌, ℕ, ◌-◌, ◌≤◌, List, ◌++◌, length, take, drop, replicate}
+use Rattle.std.proofs.Common.{refl, ap, arith}
+use Rattle.std.proofs.lemmas.List.{drop-replicate, length-replicate, length-take-le}
 
-pub begun_eq : (s s' : Started) (f f' c c' : List ℕ) → s ≡ s' → f ≡ f' → c ≡ c' → begun s f c ≡ begun s' f' c'
-begun_eq s s' f f' c c' p q r = rw (p, q, r)
-
-pub started-rec : (go : Bool) (a : Answer) (r r' : Record) → r ≡ r' → started go a r ≡ started go a r'
-started-rec go a r r' p = rw p
-
-pub ruleset begins = (begun_eq, started-rec)
+pub pages-white : (g n : ℕ) (free white : List ℕ) → g ≤ n → free ≡ replicate n 0 → white ≡ replicate (length (take g free)) 1 → white ++ drop g free ≡ replicate g 1 ++ replicate (n - g) 0
+pages-white g n free white h e w =
+    let k : length (take g free) ≡ g = length-take-le g free (omega (arith, ap length e, length-replicate {A = ℕ} n 0)) in
+    rw (w, k, e, drop-replicate {X = ℕ} g n 0) refl

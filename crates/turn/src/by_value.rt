@@ -1,17 +1,16 @@
 // The calls by value: sizes first (1), then the writer (3), then the turn.
-ghost use Rattle.std.specs.Prelude.{◌≡◌, ◌-◌, ◌≤◌, ◌++◌, length, replicate, nat_lt};
-ghost use Rattle.machine.specs.Choice.{pick};
-ghost use Rattle.machine.specs.Limits.{none};
+#![tactic(auto, using(std::proofs::lemmas::Bool::Decides::nat_tests, crate::proofs::Sizes::sizes), unfolding(machine::specs::Choice::refuse, crate::specs::Lent::writing, crate::specs::Lent::collecting, crate::specs::Lent::beginning))]
+
+ghost use Rattle.std.specs.Prelude.{◌≡◌, ◌≤◌};
 ghost use Rattle.machine.specs.Store.{fresh_record};
-ghost use Rattle.machine.specs.Turns.{written, collected};
+ghost use Rattle.machine.specs.Turns.{by_row, by_record, written, collected};
 ghost use Rattle.turn.specs.Lent.{writing, collecting, begun, beginning};
 
-use crate::Started;
 use cells::NONE;
 use cells::limits::sizes_ok;
-use collector::{collector_turn, stopped};
-use machine::{Answer, Call, CollectorTurn, Record, Row, Survey, WriterTurn};
-use writer::{refused, turn_of};
+use collector::collector_turn;
+use machine::{Call, CollectorTurn, Record, Refusal, Row, WriterTurn};
+use writer::turn_of;
 
 pub fn write_core(
     rec: Record,
@@ -21,16 +20,21 @@ pub fn write_core(
     fields: &mut [u16],
     colours: &mut [u8],
     call: Call,
-) -> WriterTurn
-    ensures { written result fields.new colours.new ≡ writing rec rows w row fields.old colours.old call }
+) -> Result<WriterTurn, Refusal>
+    ensures { written (by_row row result) fields.new colours.new ≡ writing rec rows w row fields.old colours.old call }
 {
-    let words = fields.len();
-    let bytes = colours.len();
-    if !sizes_ok(rec.n as u32, rec.g as u32, rec.m as u32, rows, words, bytes) {
-        return refused(row, 1);
+    if !sizes_ok(
+        rec.n.into(),
+        rec.g.into(),
+        rec.m.into(),
+        rows,
+        fields.len(),
+        colours.len(),
+    ) {
+        return Err(Refusal::BadSize);
     }
-    if (rec.m as u32) <= w {
-        return refused(row, 3);
+    if u32::from(rec.m) <= w {
+        return Err(Refusal::NoSuch);
     }
     turn_of(rec, row, fields, colours, call)
 }
@@ -38,16 +42,21 @@ pub fn write_core(
 pub fn collect_core(
     rec: Record,
     rows: usize,
-    seen: Survey,
+    seen: Result<bool, Refusal>,
     fields: &[u16],
     colours: &mut [u8],
-) -> CollectorTurn
-    ensures { collected result colours.new ≡ collecting rec rows seen fields.now colours.old }
+) -> Result<CollectorTurn, Refusal>
+    ensures { collected (by_record rec result) colours.new ≡ collecting rec rows seen fields.now colours.old }
 {
-    let words = fields.len();
-    let bytes = colours.len();
-    if !sizes_ok(rec.n as u32, rec.g as u32, rec.m as u32, rows, words, bytes) {
-        return stopped(rec, 1);
+    if !sizes_ok(
+        rec.n.into(),
+        rec.g.into(),
+        rec.m.into(),
+        rows,
+        fields.len(),
+        colours.len(),
+    ) {
+        return Err(Refusal::BadSize);
     }
     collector_turn(rec, seen, fields, colours)
 }
@@ -69,62 +78,23 @@ fn fresh_record(n: u32, g: u32, m: u32) -> Record
     }
 }
 
-fn empty_fields(fields: &mut [u16])
-    ensures { fields.new ≡ replicate (length fields.old) none }
-{
-    let mut i: usize = 0;
-    while i < fields.len() {
-        fields[i] = NONE;
-        i += 1;
-    }
-}
-
-// Pages white, other cells free.
-fn fresh_colour(i: usize, g: usize) -> u8
-    ensures { result ≡ pick (nat_lt i g) 1 0 }
-{
-    if i < g {
-        return 1;
-    }
-    0
-}
-
-fn fresh_colours(colours: &mut [u8], g: usize)
-    requires { g ≤ length colours.old }
-    ensures { colours.new ≡ replicate g 1 ++ replicate (length colours.old - g) 0 }
-{
-    let mut i: usize = 0;
-    while i < colours.len() {
-        colours[i] = fresh_colour(i, g);
-        i += 1;
-    }
-}
-
+// The fields and colours are filled; the fresh record. The rows are the caller's to fill.
 pub fn start_core(
     n: u32,
     g: u32,
     m: u32,
-    rec: Record,
     rows: usize,
     fields: &mut [u16],
     colours: &mut [u8],
-) -> Started
-    ensures { begun result fields.new colours.new ≡ beginning n g m rec rows fields.old colours.old }
+) -> Result<Record, Refusal>
+    ensures { begun result fields.new colours.new ≡ beginning n g m rows fields.old colours.old }
 {
-    let words = fields.len();
-    let bytes = colours.len();
-    if !sizes_ok(n, g, m, rows, words, bytes) {
-        return Started {
-            go: false,
-            answer: Answer::Refused(1),
-            rec: rec,
-        };
+    if !sizes_ok(n, g, m, rows, fields.len(), colours.len()) {
+        return Err(Refusal::BadSize);
     }
-    empty_fields(fields);
-    fresh_colours(colours, g as usize);
-    Started {
-        go: true,
-        answer: Answer::Done,
-        rec: fresh_record(n, g, m),
-    }
+    fields.fill(NONE);
+    // Cells free, but for the pages, which are white.
+    colours.fill(0);
+    colours[..g as usize].fill(1);
+    Ok(fresh_record(n, g, m))
 }

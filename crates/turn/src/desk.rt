@@ -1,13 +1,17 @@
-// The desk behind its reference: a row taken out, a row put back, all rows filled, and the statuses seen.
+// The desk behind its reference: a row taken out, a row put back, and the statuses seen.
+#![tactic(auto, using(std::proofs::lemmas::Bool::Decides::nat_tests, cells::proofs::Testing::same_all, crate::proofs::Seeing::rows_read_le), unfolding(machine::specs::Choice::every, machine::specs::Collector::has_status, crate::specs::Lent::waits, crate::specs::Lent::rows_read, crate::specs::Lent::seen, machine::specs::Collector::survey, machine::specs::Choice::refuse, machine::specs::Range::status_ok))]
+
 ghost use Rattle.std.specs.Prelude.{◌≡◌, slice_index_or, slice_set};
-ghost use Rattle.machine.specs.Choice.{pick};
+ghost use Rattle.std.specs.List.{list_all};
+ghost use Rattle.machine.specs.Collector.{has_status};
+ghost use Rattle.machine.specs.Range.{status_ok};
 ghost use Rattle.machine.specs.Store.{fresh_row};
-ghost use Rattle.turn.specs.Lent.{waits, rows_read, unseen, sees, seen, filled};
+ghost use Rattle.turn.specs.Lent.{waits, rows_read, seen};
 
 use cells::NONE;
-use cells::range::{both, status_ok};
+use cells::range::status_ok;
 use cells::stage::posted;
-use machine::{Job, Record, Row, Survey};
+use machine::{Record, Refusal, Row};
 
 pub fn fresh_row() -> Row
     ensures { result ≡ fresh_row }
@@ -15,7 +19,7 @@ pub fn fresh_row() -> Row
     Row {
         status: 0,
         slots: [NONE; 8],
-        job: Job::Idle,
+        job: None,
     }
 }
 
@@ -23,38 +27,16 @@ pub fn fresh_row() -> Row
 pub fn row_or(desk: &[Row], i: usize) -> Row
     ensures { result ≡ slice_index_or desk.now i fresh_row }
 {
-    if i < desk.len() { desk[i] } else { fresh_row() }
+    desk.get(i).copied().unwrap_or(fresh_row())
 }
 
 // Row i is written, where the desk has one.
 pub fn put_row(desk: &mut [Row], i: usize, row: Row)
     ensures { desk.new ≡ slice_set desk.old i row }
 {
+    // An index: of what is written through a slice's `get_mut` only the length is known to the proof.
     if i < desk.len() {
         desk[i] = row;
-    }
-}
-
-// n, or 0.
-pub fn rows_if(all: bool, n: usize) -> usize
-    ensures { result ≡ pick all n 0 }
-{
-    if all {
-        return n;
-    }
-    0
-}
-
-// All rows are filled, or none.
-pub fn blank_rows(desk: &mut [Row], all: bool)
-    ensures { desk.new ≡ filled all desk.old }
-{
-    let n = rows_if(all, desk.len());
-    let b = fresh_row();
-    let mut i: usize = 0;
-    while i < n {
-        desk[i] = b;
-        i += 1;
     }
 }
 
@@ -62,10 +44,8 @@ pub fn blank_rows(desk: &mut [Row], all: bool)
 fn waits(rec: Record) -> bool
     ensures { result ≡ waits rec }
 {
-    let stage = rec.stage;
-    match stage {
-        1 => true,
-        2 => true,
+    match rec.stage {
+        1 | 2 => true,
         3 => rec.g <= rec.place,
         _ => false,
     }
@@ -75,42 +55,29 @@ fn waits(rec: Record) -> bool
 pub fn rows_read(rec: Record, rows: usize) -> usize
     ensures { result ≡ rows_read rec rows }
 {
-    if waits(rec) {
-        return rows;
-    }
-    0
+    if waits(rec) { rows } else { 0 }
 }
 
-pub fn unseen() -> Survey
-    ensures { result ≡ unseen }
+// Whether all statuses are in range; whether all are this number.
+fn all_fit(rows: &[Row]) -> bool
+    ensures { result ≡ list_all status_ok rows.now }
 {
-    Survey {
-        fit: true,
-        same: true,
-    }
+    rows.iter().all(|row| status_ok(*row))
 }
 
-// One row more is seen.
-pub fn sees(s: Survey, rec: Record, row: Row) -> Survey
-    ensures { result ≡ sees s rec row }
+fn all_same(rows: &[Row], number: u8) -> bool
+    ensures { result ≡ list_all (has_status number) rows.now }
 {
-    let number = posted(rec.stage);
-    Survey {
-        fit: both(s.fit, status_ok(row)),
-        same: both(s.same, row.status == number),
-    }
+    rows.iter().all(|row| row.status == number)
 }
 
-// The rows that this turn reads are seen, in a loop.
-pub fn survey_desk(desk: &[Row], rec: Record) -> Survey
+// What a waiting test finds in the statuses of the rows that this turn reads.
+pub fn survey_desk(desk: &[Row], rec: Record) -> Result<bool, Refusal>
     ensures { result ≡ seen rec desk.now }
 {
-    let n = rows_read(rec, desk.len());
-    let mut s = unseen();
-    let mut i: usize = 0;
-    while i < n {
-        s = sees(s, rec, desk[i]);
-        i += 1;
+    let rows = &desk[..rows_read(rec, desk.len())];
+    if !all_fit(rows) {
+        return Err(Refusal::BadNumber);
     }
-    s
+    Ok(all_same(rows, posted(rec.stage)))
 }

@@ -1,13 +1,15 @@
 -- Rows in the desk's words.
-use Rattle.std.specs.Prelude.{◌≡◌, ℕ, zero, suc, ◌+◌, ◌-◌, ◌*◌, ◌/◌, ◌<◌, ◌≤◌, List, [], ◌∷◌, ◌++◌, length, get_or, take, drop}
+use Rattle.std.specs.Prelude.{◌≡◌, ℕ, zero, suc, ◌+◌, ◌*◌, ◌/◌, ◌<◌, ◌≤◌, List, [], ◌∷◌, length, get_or, take, drop, ltb, MatchOption, Option, Some, None}
+use Rattle.std.specs.Option.{is_some, IfSome}
 use mathlib.Core.Path.{refl, sym, ap, ◌∙◌}
 use native.Mathlib.Omega.{arith}
-use lib.ListN.{length-drop}
-use lib.Seq.{take_all, drop-drop}
-use borrow.Author.Tests.{lt-ltb, le-ltb}
+use lib.Seq.{drop-drop}
+use Rattle.std.specs.Simd.{first_chunks}
+use Rattle.std.proofs.lemmas.List.{get_or-take}
+use borrow.Author.Tests.{ltb-true, ltb-false}
 use Rattle.machine.specs.Store.{fresh_row}
 use Rattle.machine.specs.declared.Row.{Row}
-use Rattle.turns.specs.Plain.{row_of, rows_of, desk_of, words_of, with_row}
+use Rattle.turns.specs.Plain.{row_of, rows_of, desk_of}
 
 -- ---- a row taken out
 rows-length : (k : ℕ) (words : List ℕ) → length (rows_of k words) ≡ k
@@ -36,20 +38,28 @@ pub desk-at : (words : List ℕ) (i : ℕ) → i < length words / 16 → get_or 
 unfolding desk_of
 desk-at words i h = rows_at (length words / 16) words i h
 
-pub row-there : (words : List ℕ) (i : ℕ) (r : Row) → i < length words / 16 → r ≡ row_of (take (length words - i * 16) (drop (i * 16) words)) → r ≡ get_or (desk_of words) i fresh_row
-row-there words i r h e =
-    e ∙ ap row_of (take_all (length words - i * 16) (drop (i * 16) words) (omega (arith, length-drop (i * 16) words))) ∙ sym (desk-at words i h)
+-- the words of a row, as `as_chunks` gives them
+chunk-at : (k : ℕ) (words : List ℕ) (i : ℕ) (d : List ℕ) → i < k → get_or (first_chunks 16 k words) i d ≡ take 16 (drop (i * 16) words)
+chunk-at zero words i d h = absurd (omega arith)
+chunk-at (suc k) words zero d h = refl
+chunk-at (suc k) words (suc i) d h =
+    let e : 16 + i * 16 ≡ suc i * 16 = omega arith in
+    chunk-at k (drop 16 words) i d (omega arith) ∙ ap (take 16) (drop-drop (i * 16) 16 words ∙ ap (λ (n : ℕ). drop n words) e)
 
-pub row-none : (words : List ℕ) (i : ℕ) (r : Row) → length words / 16 ≤ i → r ≡ fresh_row → r ≡ get_or (desk_of words) i fresh_row
-row-none words i r h e = e ∙ sym (out (desk_of words) i (omega (arith, desk-length words)))
+pub first-16 : (words : List ℕ) → row_of (take 16 words) ≡ row_of words
+unfolding row_of
+first-16 words =
+    let at : (i : ℕ) → i < 16 → get_or (take 16 words) i 0 ≡ get_or words i 0 = λ i h. get_or-take 16 words i 0 h in
+    rw (at 0 (omega arith), at 1 (omega arith), at 2 (omega arith), at 3 (omega arith), at 4 (omega arith), at 5 (omega arith), at 6 (omega arith), at 7 (omega arith), at 8 (omega arith), at 9 (omega arith), at 10 (omega arith), at 11 (omega arith), at 12 (omega arith), at 13 (omega arith), at 14 (omega arith)) refl
 
--- ---- a row put back
-pub row_put : (words : List ℕ) (i : ℕ) (row : Row) (ws l : List ℕ) → i < length words / 16 → ws ≡ words_of row → l ≡ take (i * 16) words ++ ws ++ drop (i * 16 + 16) words → l ≡ with_row words i row
-unfolding with_row
-row_put words i row ws l h e d = rw (lt-ltb i (length words / 16) h) (d ∙ rw e)
+pub chunk-row : (words : List ℕ) (i : ℕ) (d : List ℕ) → i < length words / 16 → row_of (get_or (first_chunks 16 (length words / 16) words) i d) ≡ get_or (desk_of words) i fresh_row
+chunk-row words i d h = ap row_of (chunk-at (length words / 16) words i d h) ∙ first-16 (drop (i * 16) words) ∙ sym (desk-at words i h)
 
-pub row_left : (words : List ℕ) (i : ℕ) (row : Row) → length words / 16 ≤ i → words ≡ with_row words i row
-unfolding with_row
-row_left words i row h = rw (le-ltb i (length words / 16) h)
-
-pub ruleset rows = (row-there, row-none, row_put, row_left)
+-- what was looked up, and the row that was made of it
+pub row-read : {B : Type 0} (now : B → List ℕ) (words : List ℕ) (i : ℕ) (rows : List (List ℕ)) (found : Option B) (r : Row) → rows ≡ first_chunks 16 (length words / 16) words
+    → is_some found ≡ ltb i (length rows) → IfSome found (λ x. now x ≡ get_or rows i (now x)) → MatchOption found (r ≡ fresh_row) (λ x. r ≡ row_of (now x)) → length rows ≡ length words / 16
+    → r ≡ get_or (desk_of words) i fresh_row
+row-read now words i rows (Some x) r front there at is long =
+    is ∙ ap row_of (at ∙ ap (λ (rows : List (List ℕ)). get_or rows i (now x)) front) ∙ chunk-row words i (now x) (omega (arith, ltb-true i (length rows) (sym there), long))
+row-read now words i rows None r front there at is long =
+    is ∙ sym (out (desk_of words) i (omega (arith, desk-length words, ltb-false i (length rows) (sym there), long)))

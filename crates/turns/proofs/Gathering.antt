@@ -1,37 +1,29 @@
--- The rows in the desk's words, copied one after the other.
-use Rattle.std.specs.Prelude.{◌≡◌, ℕ, ◌+◌, ◌/◌, ◌<◌, ◌≤◌, List, length, get_or, take, set, replicate}
-use mathlib.Core.Path.{sym, ap, ◌∙◌}
-use native.Mathlib.Omega.{arith}
+-- The rows in the desk's words, copied.
+use Rattle.std.specs.Prelude.{◌≡◌, ℕ, zero, suc, ◌/◌, ◌<◌, ◌≤◌, List, length, get_or, take}
+use Rattle.std.proofs.Common.{sym, ◌∙◌, arith}
+use Rattle.std.proofs.lemmas.List.{ext_get_or, get_or-take, length-take-le}
 use Rattle.machine.specs.Store.{fresh_row}
 use Rattle.machine.specs.declared.Row.{Row}
-use Rattle.turn.specs.Lent.{own_rows}
-use Rattle.census.proofs.Gathering.{Copied, copied_none, copied_more, own-le, own-eight}
 use Rattle.turns.specs.Plain.{desk_of}
 use Rattle.turns.proofs.Desk.{desk-length}
 
--- of the n rows that are copied, i are
-pub record Gathering (words : List ℕ) (n : ℕ) (own : List Row) (i : ℕ) : Type 0 where
-  pub rows : n ≡ own_rows (length words / 16)
-  pub eight : n ≤ 8
-  pub few : i ≤ n
-  pub copied : Copied (desk_of words) i own
+module _ (words : List ℕ) (own : List Row) (few : length words / 16 ≤ 8) (eight : length own ≡ 8) where
+  -- own's row i is the desk's
+  abbrev Same : ℕ → Type 0
+  Same i = get_or own i fresh_row ≡ get_or (desk_of words) i fresh_row
 
-pub gather_begin : (words : List ℕ) (n : ℕ) (own : List Row) → n ≡ own_rows (length words / 16) → own ≡ replicate 8 fresh_row → Gathering words n own 0
-gather_begin words n own r e = record { rows = r; eight = rw r (own-eight (length words / 16)); few = omega arith; copied = copied_none (desk_of words) own e }
-
-module _ (words : List ℕ) (n : ℕ) (own : List Row) (i : ℕ) (k : Gathering words n own i) where
-  pub gather_next : (r : Row) → i < n → r ≡ get_or (desk_of words) i fresh_row → Gathering words n (set own i r) (i + 1)
-  gather_next r h e = record {
-    rows = k.rows;
-    eight = k.eight;
-    few = omega arith;
-    copied = copied_more (desk_of words) fresh_row i own (set own i r) k.copied (omega (arith, k.eight)) (omega (arith, k.rows, own-le (length words / 16), desk-length words)) (ap (set own i) e);
-  }
-
-  pub gather_end : n ≤ i → take (own_rows (length (desk_of words))) own ≡ take (own_rows (length (desk_of words))) (desk_of words)
-  gather_end h =
-      let a = k.few in
-      let e : i ≡ n = omega arith in
-      rw (ap own_rows (desk-length words) ∙ sym k.rows ∙ sym e) k.copied.same
-
-pub ruleset gathers = (gather_begin, gather_next, gather_end)
+  pub gathered : Same 0 → Same 1 → Same 2 → Same 3 → Same 4 → Same 5 → Same 6 → Same 7 → take (length words / 16) own ≡ desk_of words
+  gathered a b c d e f g h =
+      let long = length-take-le (length words / 16) own (omega arith) in
+      ext_get_or fresh_row _ _ (long ∙ sym (desk-length words)) (λ i k. get_or-take (length words / 16) own i fresh_row (omega arith) ∙ same i (omega arith))
+    where
+      same : (i : ℕ) → i < 8 → Same i
+      same zero k = a
+      same (suc zero) k = b
+      same (suc (suc zero)) k = c
+      same (suc (suc (suc zero))) k = d
+      same (suc (suc (suc (suc zero)))) k = e
+      same (suc (suc (suc (suc (suc zero))))) k = f
+      same (suc (suc (suc (suc (suc (suc zero)))))) k = g
+      same (suc (suc (suc (suc (suc (suc (suc zero))))))) k = h
+      same (suc (suc (suc (suc (suc (suc (suc (suc i)))))))) k = absurd (omega arith)

@@ -8,3 +8,4 @@ pub mod Surveying
 pub mod Gathering
 pub mod Blanking
 pub mod Ending
+pub mod Counting

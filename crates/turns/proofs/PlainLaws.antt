@@ -1,5 +1,5 @@
 -- There and back: a row and a record are told whole by their numbers; and a record that is in range is told by its numbers as they are.
-use Rattle.std.specs.Prelude.{◌≡◌, ℕ, zero, suc, ◌+◌, ◌<◌, ◌≤◌, Bool, true, false, leb, ◌⊎◌, List, [], ◌∷◌, length, take, drop, ◌==◌, ◌≢◌, nat_le, nat_lt, slice_index}
+use Rattle.std.specs.Prelude.{◌≡◌, ℕ, zero, suc, ◌+◌, ◌<◌, ◌≤◌, Bool, true, false, leb, ◌⊎◌, List, [], ◌∷◌, length, take, drop, ◌==◌, ◌≢◌, nat_le, nat_lt, slice_index, Some, None, Option}
 use Rattle.std.specs.Prelude.{refl}
 use Rattle.std.proofs.Common.{sym, ap, ◌∙◌, arith, drop_of_length-le, drop-cons}
 use Rattle.std.proofs.Math.Logic.{inl, inr}
@@ -15,8 +15,6 @@ use Rattle.machine.specs.declared.Plan.{Plan}
 use Rattle.machine.specs.declared.Plan.TheVariants.{FullRead, FullOld, FullNew, FullWrite, TracedRead, TracedOld, TracedWrite, BareWrite}
 use Rattle.machine.specs.declared.Look.{Look}
 use Rattle.machine.specs.declared.Look.TheVariants.{Ahead, Keep, White}
-use Rattle.machine.specs.declared.Job.{Job}
-use Rattle.machine.specs.declared.Job.TheVariants.{Idle, Busy}
 use Rattle.machine.specs.declared.Work.{Work}
 use Rattle.machine.specs.declared.Work.TheVariants.{Answering, Storing, Creating}
 use Rattle.turns.specs.Fits.{WorkFits, JobFits, RowFits, RecordFits}
@@ -63,16 +61,16 @@ look_back Ahead = (refl, refl)
 look_back Keep = (refl, refl)
 look_back White = (refl, refl)
 
-work_back : (w : Work) → WorkFits w → job_of (work_task w) ≡ Busy w
+work_back : (w : Work) → WorkFits w → job_of (work_task w) ≡ Some w
 unfolding work_task job_of storing_of creating_of
 work_back (Answering k) h = rw (byte_back k h)
 work_back (Storing s p) h = let k = plan_back p in rw (k.0, k.1, byte_back s.field h) refl
 work_back (Creating m) h = let k = look_back m.look in rw (k.0, k.1, byte_back m.slot h) refl
 
-job_back : (j : Job) → JobFits j → job_of (task_of j) ≡ j
+job_back : (j : Option Work) → JobFits j → job_of (task_of j) ≡ j
 unfolding task_of job_of
-job_back Idle h = refl
-job_back (Busy w) h = work_back w h
+job_back None h = refl
+job_back (Some w) h = work_back w h
 
 pub row_back : (row : Row) → RowFits row → row_of (words_of row) ≡ row
 unfolding row_of words_of from

@@ -1,55 +1,77 @@
--- The statuses in the desk's words, seen one after the other.
-use Rattle.std.specs.Prelude.{◌≡◌, ℕ, ◌+◌, ◌*◌, ◌/◌, ◌<◌, ◌≤◌, List, length, get_or, take}
-use mathlib.Core.Path.{sym, ap, ◌∙◌}
-use native.Mathlib.Omega.{arith}
-use lib.Seq.{get_or-drop}
-use Rattle.machine.specs.Store.{fresh_row}
+-- The statuses in the desk's words: what is asked of each row's first word is asked of the row.
+use Rattle.std.specs.Prelude.{◌≡◌, ℕ, zero, suc, ◌+◌, ◌<◌, ◌≤◌, ◌/◌, ◌&&◌, ◌==◌, Bool, true, false, nat_le, List, [], ◌∷◌, length, get_or, take, drop, Ok, Err}
+use Rattle.std.specs.List.{list_all}
+use Rattle.std.specs.Simd.{first_chunks}
+use Rattle.std.proofs.Common.{refl, sym, ap, ◌∙◌, arith}
+use Rattle.std.proofs.lemmas.List.{take_all}
+use native.Mathlib.Numerals.{add-one}
+use Rattle.machine.specs.Choice.{pick, all, refuse}
 use Rattle.machine.specs.Stage.{posted}
 use Rattle.machine.specs.Range.{status_ok}
 use Rattle.machine.specs.Collector.{has_status, survey}
 use Rattle.machine.specs.declared.Record.{Record}
 use Rattle.machine.specs.declared.Row.{Row}
-use Rattle.machine.specs.declared.Survey.{Survey}
-use Rattle.turn.specs.Lent.{rows_read, unseen, sees, seen}
-use Rattle.turn.proofs.Seeing.{seen_none, seen_more, rows-read-le}
-use Rattle.turns.specs.Plain.{byte_of, row_of, desk_of}
-use Rattle.turns.proofs.Desk.{desk-length, desk-at}
+use Rattle.machine.specs.declared.Refusal.TheVariants.{BadNumber}
+use Rattle.turn.specs.Lent.{rows_read, seen}
+use Rattle.turns.specs.Plain.{byte_of, row_of, rows_of, desk_of}
+use Rattle.turns.proofs.Desk.{desk-length, first-16}
 
--- of the n rows that this turn reads, i are seen
-pub record Surveying (rec : Record) (words : List ℕ) (n : ℕ) (s : Survey) (i : ℕ) : Type 0 where
-  pub reads : n ≡ rows_read rec (length words / 16)
-  pub below : n ≤ length words / 16
-  pub few : i ≤ n
-  pub saw : s ≡ survey (posted rec.stage) (take i (desk_of words))
+-- the rows' words, as `as_chunks` gives them
+abbrev pub chunks : List ℕ → List (List ℕ)
+chunks words = first_chunks 16 (length words / 16) words
 
-pub survey-begin : (rec : Record) (words : List ℕ) (n : ℕ) (s : Survey) → n ≡ rows_read rec (length words / 16) → s ≡ unseen → Surveying rec words n s 0
-survey-begin rec words n s r e = record { reads = r; below = rw r (rows-read-le rec (length words / 16)); few = omega arith; saw = e ∙ seen_none rec (desk_of words) }
+all-rows : (t : Row → Bool) (n k : ℕ) (words : List ℕ) → list_all (λ ws. t (row_of ws)) (take n (first_chunks 16 k words)) ≡ all t (take n (rows_of k words))
+unfolding all rows_of
+all-rows t zero k words = refl
+all-rows t (suc n) zero words = refl
+all-rows t (suc n) (suc k) words = rw (first-16 words) (go (t (row_of words)) (all-rows t n k (drop 16 words)))
+  where
+    go : (b : Bool) → list_all (λ ws. t (row_of ws)) (take n (first_chunks 16 k (drop 16 words))) ≡ all t (take n (rows_of k (drop 16 words)))
+        → (b && list_all (λ ws. t (row_of ws)) (take n (first_chunks 16 k (drop 16 words)))) ≡ pick b (all t (take n (rows_of k (drop 16 words)))) false
+    go true e = e
+    go false e = refl
 
--- only the status of a row is asked
-same-status : (s : Survey) (rec : Record) (row row' : Row) → row.status ≡ row'.status → sees s rec row ≡ sees s rec row'
-unfolding sees status_ok has_status
-same-status s rec row row' e = rw e
+-- a row's status is within its limits, or is the one posted
+abbrev pub status_in : List ℕ → Bool
+status_in ws = nat_le (byte_of (get_or ws 0 0)) 2
 
-status-at : (words : List ℕ) (i : ℕ) → i < length words / 16 → (get_or (desk_of words) i fresh_row).status ≡ byte_of (get_or words (i * 16) 0)
-unfolding row_of
-status-at words i h =
-    let e : i * 16 + 0 ≡ i * 16 = omega arith in
-    ap (λ (r : Row). r.status) (desk-at words i h) ∙ ap byte_of (get_or-drop (i * 16) words 0 0 ∙ ap (λ (k : ℕ). get_or words k 0) e)
+abbrev pub status_is : ℕ → List ℕ → Bool
+status_is number ws = byte_of (get_or ws 0 0) == number
 
-module _ (rec : Record) (words : List ℕ) (n : ℕ) (s : Survey) (i : ℕ) (k : Surveying rec words n s i) where
-  pub survey-next : (row : Row) (s' : Survey) → i < n → row.status ≡ byte_of (get_or words (i * 16) 0) → s' ≡ sees s rec row → Surveying rec words n s' (i + 1)
-  survey-next row s' h e d = record {
-    reads = k.reads;
-    below = k.below;
-    few = omega arith;
-    saw = d ∙ same-status s rec row (get_or (desk_of words) i fresh_row) (e ∙ sym (status-at words i (omega (arith, k.below)))) ∙ seen_more rec (desk_of words) fresh_row i s (omega (arith, desk-length words, k.below)) k.saw;
-  }
+-- one row more is asked; d is what an index past the end would read
+more : (t : List ℕ → Bool) (rows : List (List ℕ)) (d : List ℕ) (i : ℕ) → i < length rows → (list_all t (take i rows) && t (get_or rows i d)) ≡ list_all t (take (suc i) rows)
+more t [] d i h = absurd (omega arith)
+more t (x ∷ rows) d zero h = go (t x)
+  where
+    go : (b : Bool) → b ≡ (b && true)
+    go true = refl
+    go false = refl
+more t (x ∷ rows) d (suc i) h = go (t x) (more t rows d i (omega arith))
+  where
+    go : (b : Bool) → (list_all t (take i rows) && t (get_or rows i d)) ≡ list_all t (take (suc i) rows) → ((b && list_all t (take i rows)) && t (get_or rows i d)) ≡ (b && list_all t (take (suc i) rows))
+    go true e = e
+    go false e = refl
 
-  pub survey-end : n ≤ i → s ≡ seen rec (desk_of words)
-  unfolding seen
-  survey-end h =
-      let a = k.few in
-      let e : i ≡ n = omega arith in
-      k.saw ∙ ap (λ (j : ℕ). survey (posted rec.stage) (take j (desk_of words))) (e ∙ k.reads ∙ ap (rows_read rec) (sym (desk-length words)))
+pub asked_more : (t : List ℕ → Bool) (rows : List (List ℕ)) (d : List ℕ) (i : ℕ) (b : Bool) → i < length rows → b ≡ list_all t (take i rows) → (b && t (get_or rows i d)) ≡ list_all t (take (i + 1) rows)
+asked_more t rows d i b h e = rw (e, add-one i) (more t rows d i h)
 
-pub ruleset surveys = (survey-begin, survey-next, survey-end)
+pub asked_all : (t : List ℕ → Bool) (rows : List (List ℕ)) (i : ℕ) (b : Bool) → length rows ≤ i → b ≡ list_all t (take i rows) → b ≡ list_all t rows
+asked_all t rows i b h e = e ∙ rw (take_all i rows h)
+
+-- of these rows the first n are read
+module _ (rec : Record) (words : List ℕ) (rows : List (List ℕ)) (n : ℕ) (front : rows ≡ chunks words) (reads : n ≡ rows_read rec (length rows)) (long : length rows ≡ length words / 16) where
+  read : take n (rows_of (length words / 16) words) ≡ take (rows_read rec (length (desk_of words))) (desk_of words)
+  unfolding desk_of
+  read = ap (λ (k : ℕ). take k (rows_of (length words / 16) words)) (reads ∙ ap (rows_read rec) (long ∙ sym (desk-length words)))
+
+  asked : (t : Row → Bool) → list_all (λ ws. t (row_of ws)) (take n rows) ≡ all t (take (rows_read rec (length (desk_of words))) (desk_of words))
+  asked t = rw front (all-rows t n (length words / 16) words) ∙ ap (all t) read
+
+  pub saw-bad : (a : Bool) → a ≡ list_all status_in (take n rows) → a ≡ false → Err BadNumber ≡ seen rec (desk_of words)
+  unfolding seen survey refuse status_ok row_of
+  saw-bad a e f = rw (sym (asked status_ok) ∙ sym e ∙ f) refl
+
+  pub saw-all : (a b : Bool) (number : ℕ) → a ≡ list_all status_in (take n rows) → a ≡ true → number ≡ posted rec.stage → b ≡ list_all (status_is number) (take n rows) → Ok b ≡ seen rec (desk_of words)
+  unfolding seen survey refuse status_ok has_status row_of
+  saw-all a b number e f p d =
+      rw (sym (asked status_ok) ∙ sym e ∙ f) (ap Ok (d ∙ ap (λ (k : ℕ). list_all (status_is k) (take n rows)) p ∙ asked (has_status (posted rec.stage))))

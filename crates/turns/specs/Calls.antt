@@ -1,13 +1,14 @@
 -- What each exported call does: the machine's call on the store that the plain numbers tell, and the numbers after it.
-use Rattle.std.specs.Prelude.{◌≡◌, ℕ, ◌%◌, Bool, List, [], ◌∷◌, length, ◌==◌, slice_index_or}
+use Rattle.std.specs.Prelude.{◌≡◌, ℕ, ◌%◌, Bool, List, [], ◌∷◌, length, ◌==◌, slice_index_or, Result, Ok, Err}
 use Rattle.machine.specs.Choice.{pick, every, refuse}
 use Rattle.machine.specs.Store.{Store, Outcome, parts, fresh_row, start}
 use Rattle.machine.specs.Census.{census}
 use Rattle.machine.specs.Machine.{write, collect}
 use Rattle.machine.specs.declared.Call.{Call}
-use Rattle.machine.specs.declared.Answer.{Answer}
-use Rattle.machine.specs.declared.Report.{Report}
-use Rattle.machine.specs.declared.Report.TheVariants.{Counted, Refused}
+use Rattle.machine.specs.Answer.{Answered, number}
+use Rattle.machine.specs.declared.Counts.{Counts}
+use Rattle.machine.specs.declared.Refusal.{Refusal}
+use Rattle.machine.specs.declared.Refusal.TheVariants.{BadSize}
 use Rattle.turns.specs.Plain.{record_of, numbers_of, desk_of, row_words, with_row, answer_number, is_refused}
 
 -- the lent parts: the record's numbers, the desk's words, the fields and the colours
@@ -34,31 +35,31 @@ pub record Shaped (numbers words : ℕ) : Type 0 where
   pub whole : words % 16 ≡ 0
 
 -- a call's answer, as a number, and the lent parts after it
-pub record Result : Type 0 where
+pub record Reply : Type 0 where
   pub answer : ℕ
   pub after : Lent
 
-abbrev pub result_of : ℕ → Lent → Result
+abbrev pub result_of : ℕ → Lent → Reply
 result_of answer after = record { answer = answer; after = after }
 
 -- "A refusal returns its number and nothing else changes."
-unfoldable pub ended : Lent → Lent → Answer → Result
+unfoldable pub ended : Lent → Lent → Answered → Reply
 ended before after a = result_of (answer_number a) (pick (is_refused a) before after)
 
 -- one of the machine's calls; `put` writes what the machine's store is after it
-unfoldable pub made : (Store → Outcome Answer) → (Lent → Store → Lent) → Lent → Result
+unfoldable pub made : (Store → Outcome Answered) → (Lent → Store → Lent) → Lent → Reply
 made call put p = ended p (put p (call (store_of p)).store) (call (store_of p)).answer
 
 -- the same, where the shape fits
-unfoldable pub called : (Store → Outcome Answer) → (Lent → Store → Lent) → Lent → Result
+unfoldable pub called : (Store → Outcome Answered) → (Lent → Store → Lent) → Lent → Reply
 called call put p =
-    refuse (λ k. result_of k p) ((shaped (length p.numbers) (length p.desk), 1) ∷ []) (made call put p)
+    refuse (λ k. result_of (number k) p) ((shaped (length p.numbers) (length p.desk), BadSize) ∷ []) (made call put p)
 
 -- start: the record and every row are written
 abbrev pub all_after : Lent → Store → Lent
 all_after p st = lent (numbers_of st.rec) (row_words st.desk) st.fields st.colours
 
-abbrev pub start_by : ℕ → ℕ → ℕ → Lent → Result
+abbrev pub start_by : ℕ → ℕ → ℕ → Lent → Reply
 start_by n g m = called (start n g m) all_after
 
 -- a call of writer w: row w is written, and the other rows' words stay
@@ -66,14 +67,14 @@ abbrev pub row_after : ℕ → Lent → Store → Lent
 row_after w p st =
     lent p.numbers (with_row p.desk w (slice_index_or st.desk w fresh_row)) st.fields st.colours
 
-abbrev pub write_by : ℕ → Call → Lent → Result
+abbrev pub write_by : ℕ → Call → Lent → Reply
 write_by w call = called (write w call) (row_after w)
 
 -- the collector's call: the record is written, and the desk's words stay
 abbrev pub record_after : Lent → Store → Lent
 record_after p st = lent (numbers_of st.rec) p.desk st.fields st.colours
 
-abbrev pub collect_by : Lent → Result
+abbrev pub collect_by : Lent → Reply
 collect_by = called collect record_after
 
 -- the census: its answer and the counts after it; it changes nothing else
@@ -85,14 +86,14 @@ abbrev pub counted : ℕ → List ℕ → Told
 counted answer counts = record { answer = answer; counts = counts }
 
 -- the six counts are written (free, white, gray, black, held, floating), or left
-unfoldable pub told : List ℕ → Report → Told
-told counts (Counted c) =
+unfoldable pub told : List ℕ → Result Counts Refusal → Told
+told counts (Ok c) =
     counted 100 (c.free ∷ c.white ∷ c.gray ∷ c.black ∷ c.held ∷ c.floating ∷ [])
-told counts (Refused k) = counted k counts
+told counts (Err k) = counted (number k) counts
 
 -- the machine's census, where the shape fits and there are six counts
 unfoldable pub census_by : Lent → List ℕ → Told
 census_by p counts =
-    refuse (λ k. counted k counts)
-    ((shaped (length p.numbers) (length p.desk), 1) ∷ ((length counts == 6), 1) ∷ [])
+    refuse (λ k. counted (number k) counts)
+    ((shaped (length p.numbers) (length p.desk), BadSize) ∷ ((length counts == 6), BadSize) ∷ [])
     (told counts (census (store_of p)).answer)

@@ -2,13 +2,13 @@
 use Rattle.std.specs.Prelude.{◌≡◌, ℕ, List}
 use Rattle.std.proofs.Common.{sym, ap, ◌∙◌}
 use Rattle.machine.specs.declared.Call.{Call}
-use Rattle.turns.specs.Calls.{Lent, Result, result_of, start_by, write_by, collect_by, Told, counted, census_by}
+use Rattle.turns.specs.Calls.{Lent, Reply, result_of, start_by, write_by, collect_by, Told, counted, census_by}
 
-abbrev pub OneResult : (Lent → Result) → Type 0
+abbrev pub OneResult : (Lent → Reply) → Type 0
 OneResult f = (p : Lent) (a b : ℕ) (after after' : Lent) → result_of a after ≡ f p → result_of b after' ≡ f p → (a ≡ b) × (after ≡ after')
 
-one-result : (f : Lent → Result) → OneResult f
-one-result f p a b after after' d e = let q = d ∙ sym e in (ap (λ (r : Result). r.answer) q, ap (λ (r : Result). r.after) q)
+one-result : (f : Lent → Reply) → OneResult f
+one-result f p a b after after' d e = let q = d ∙ sym e in (ap (λ (r : Reply). r.answer) q, ap (λ (r : Reply). r.after) q)
 
 pub record EachCall : Type 0 where
   pub start : (n g m : ℕ) → OneResult (start_by n g m)

@@ -1,9 +1,7 @@
 -- A row and a record whose numbers fit the words that tell them.
-use Rattle.std.specs.Prelude.{◌≡◌, ◌<◌, length}
+use Rattle.std.specs.Prelude.{◌≡◌, ◌<◌, length, Option, Some, None}
 use Rattle.machine.specs.declared.Record.{Record}
 use Rattle.machine.specs.declared.Row.{Row}
-use Rattle.machine.specs.declared.Job.{Job}
-use Rattle.machine.specs.declared.Job.TheVariants.{Idle, Busy}
 use Rattle.machine.specs.declared.Work.{Work}
 use Rattle.machine.specs.declared.Work.TheVariants.{Answering, Storing, Creating}
 
@@ -13,9 +11,9 @@ WorkFits (Answering k) = k < 256
 WorkFits (Storing s p) = s.field < 256
 WorkFits (Creating m) = m.slot < 256
 
-abbrev pub JobFits : Job → Type 0
-JobFits Idle = Unit {0}
-JobFits (Busy w) = WorkFits w
+abbrev pub JobFits : Option Work → Type 0
+JobFits None = Unit {0}
+JobFits (Some w) = WorkFits w
 
 pub record RowFits (row : Row) : Type 0 where
   pub slots : length row.slots ≡ 8

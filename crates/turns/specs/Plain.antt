@@ -1,6 +1,6 @@
 -- Plain numbers and the machine's types, each made of the other: the record is nine numbers, a row 16 words, an answer a number. A number
 -- that does not fit its type becomes one that is out of range, whatever the others are.
-use Rattle.std.specs.Prelude.{◌≡◌, ℕ, zero, suc, ◌+◌, ◌*◌, ◌/◌, Bool, true, false, List, [], ◌∷◌, ◌++◌, length, take, drop, ◌==◌, nat_lt, slice_index}
+use Rattle.std.specs.Prelude.{◌≡◌, ℕ, zero, suc, ◌+◌, ◌*◌, ◌/◌, Bool, true, false, List, [], ◌∷◌, ◌++◌, length, take, drop, ◌==◌, nat_lt, slice_index, Option, Some, None, Result, Ok, Err}
 use Rattle.machine.specs.Choice.{pick}
 use Rattle.machine.specs.Parts.{slot_of}
 use Rattle.machine.specs.declared.Record.{Record}
@@ -9,12 +9,11 @@ use Rattle.machine.specs.declared.Plan.{Plan}
 use Rattle.machine.specs.declared.Plan.TheVariants.{FullRead, FullOld, FullNew, FullWrite, TracedRead, TracedOld, TracedWrite, BareWrite}
 use Rattle.machine.specs.declared.Look.{Look}
 use Rattle.machine.specs.declared.Look.TheVariants.{Ahead, Keep, White}
-use Rattle.machine.specs.declared.Job.{Job}
-use Rattle.machine.specs.declared.Job.TheVariants.{Idle, Busy}
 use Rattle.machine.specs.declared.Work.{Work}
 use Rattle.machine.specs.declared.Work.TheVariants.{Answering, Storing, Creating}
-use Rattle.machine.specs.declared.Answer.{Answer}
-use Rattle.machine.specs.declared.Answer.TheVariants.{Done, More, Worked, Waited, Refused}
+use Rattle.machine.specs.Answer.{Answered, number}
+use Rattle.machine.specs.declared.Answer.TheVariants.{Done, More, Worked, Waited}
+use Rattle.machine.specs.declared.Refusal.{Refusal}
 use Rattle.turns.specs.declared.plain.Task.{Task}
 
 -- ---- numbers
@@ -81,28 +80,28 @@ unfoldable pub look_of : ℕ → Look
 look_of step = pick (step == 0) Ahead (pick (step == 1) Keep White)
 
 -- a job that is out of range: the numbers name none
-abbrev pub outside : Job
-outside = Busy (Answering 255)
+abbrev pub outside : Option Work
+outside = Some (Answering 255)
 
 -- storing: eight plans
-unfoldable pub storing_of : Task → Job
+unfoldable pub storing_of : Task → Option Work
 storing_of t =
     pick (nat_lt t.step 8)
-    (Busy (Storing (record { cell = t.cell; field = byte_of t.at; new = t.fresh; old = t.old }) (plan_of t.step)))
+    (Some (Storing (record { cell = t.cell; field = byte_of t.at; new = t.fresh; old = t.old }) (plan_of t.step)))
     outside
 
 -- creating: a look ahead, or what it decided
-unfoldable pub creating_of : Task → Job
+unfoldable pub creating_of : Task → Option Work
 creating_of t =
     pick (nat_lt t.step 3)
-    (Busy (Creating (record { slot = byte_of t.at; cell = t.cell; look = look_of t.step })))
+    (Some (Creating (record { slot = byte_of t.at; cell = t.cell; look = look_of t.step })))
     outside
 
 -- the job of six words: kind 0 idle, 1 answering, 2 storing, 3 creating
-unfoldable pub job_of : Task → Job
+unfoldable pub job_of : Task → Option Work
 job_of t =
-    pick (t.kind == 0) Idle
-    (pick (t.kind == 1) (Busy (Answering (byte_of t.step)))
+    pick (t.kind == 0) None
+    (pick (t.kind == 1) (Some (Answering (byte_of t.step)))
     (pick (t.kind == 2) (storing_of t)
     (pick (t.kind == 3) (creating_of t) outside)))
 
@@ -130,9 +129,9 @@ work_task (Storing s p) = task_with 2 (plan_number p) s.cell s.field s.new s.old
 work_task (Creating m) = task_with 3 (look_number m.look) m.cell m.slot 0 0
 
 -- a job's six words
-unfoldable pub task_of : Job → Task
-task_of Idle = task_with 0 0 0 0 0 0
-task_of (Busy w) = work_task w
+unfoldable pub task_of : Option Work → Task
+task_of None = task_with 0 0 0 0 0 0
+task_of (Some w) = work_task w
 
 -- ---- a row
 -- the row in the first 16 words: status, eight slots, the job's six; the last is not read
@@ -176,17 +175,14 @@ with_row words w row =
 
 -- ---- an answer
 -- its number: a refusal's own, below 100, or one from 100 on
-unfoldable pub answer_number : Answer → ℕ
-answer_number Done = 100
-answer_number More = 101
-answer_number Worked = 102
-answer_number Waited = 103
-answer_number (Refused k) = k
+unfoldable pub answer_number : Answered → ℕ
+answer_number (Ok Done) = 100
+answer_number (Ok More) = 101
+answer_number (Ok Worked) = 102
+answer_number (Ok Waited) = 103
+answer_number (Err k) = number k
 
 -- whether it is a refusal
-unfoldable pub is_refused : Answer → Bool
-is_refused Done = false
-is_refused More = false
-is_refused Worked = false
-is_refused Waited = false
-is_refused (Refused k) = true
+unfoldable pub is_refused : {A : Type 0} → Result A Refusal → Bool
+is_refused (Ok a) = false
+is_refused (Err k) = true

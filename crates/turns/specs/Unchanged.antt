@@ -1,7 +1,8 @@
 -- "A refusal returns its number and nothing else changes": a turn by value that is refused leaves the row, or the record, with fields and
 -- colours, and so does one of the collector that waits.
-use Rattle.std.specs.Prelude.{◌≡◌, ℕ, Bool, true, false, List, [], ◌∷◌, length, ◌==◌, nat_lt}
+use Rattle.std.specs.Prelude.{◌≡◌, ℕ, Bool, true, false, List, [], ◌∷◌, length, ◌==◌, nat_lt, Option, Some, None, Result, Ok, Err}
 use Rattle.std.proofs.Math.Path.{refl}
+use Rattle.machine.specs.Store.{fresh_record}
 use Rattle.std.proofs.lemmas.Bool.{false≢true}
 use Rattle.std.proofs.Common.{true≢false}
 use Rattle.machine.specs.Choice.{pick, among, refuse}
@@ -9,7 +10,8 @@ use Rattle.machine.specs.ChoiceLaws.{hold, refuse-cases}
 use Rattle.machine.specs.Limits.{limits_ok, lengths_ok, sizes_ok}
 use Rattle.machine.specs.Parts.{colour_of, at, with_place, with_found}
 use Rattle.machine.specs.Stage.{posted}
-use Rattle.machine.specs.Turns.{Written, written, refused, Collected, collected, worked, waited}
+use Rattle.machine.specs.Answer.{Answered}
+use Rattle.machine.specs.Turns.{RowTurn, Written, written, refused, Collected, collected, worked, waited}
 use Rattle.machine.specs.Slots.{page, copy, drop, read, read_cell}
 use Rattle.machine.specs.Answering.{answer_to, answer, next_answering}
 use Rattle.machine.specs.Storing.{store_cell, store_slots, store, store_read, store_gray, store_write, next_storing}
@@ -19,22 +21,16 @@ use Rattle.machine.specs.Collector.{entering, barred, opening, waiting, marking,
 use Rattle.machine.specs.declared.Record.{Record}
 use Rattle.machine.specs.declared.Row.{Row}
 use Rattle.machine.specs.declared.Call.{Call}
-use Rattle.machine.specs.declared.Answer.{Answer}
-use Rattle.machine.specs.declared.Answer.TheVariants.{Done, More, Worked, Waited, Refused}
-use Rattle.machine.specs.declared.WriterTurn.{WriterTurn}
-use Rattle.machine.specs.declared.CollectorTurn.{CollectorTurn}
+use Rattle.machine.specs.declared.Answer.TheVariants.{Done, More, Worked, Waited}
+use Rattle.machine.specs.declared.Refusal.{Refusal}
 use Rattle.machine.specs.declared.Stored.{Stored}
 use Rattle.machine.specs.declared.Made.{Made}
 use Rattle.machine.specs.declared.Plan.{Plan}
 use Rattle.machine.specs.declared.Plan.TheVariants.{FullRead, FullOld, FullNew, FullWrite, TracedRead, TracedOld, TracedWrite, BareWrite}
 use Rattle.machine.specs.declared.Look.{Look}
 use Rattle.machine.specs.declared.Look.TheVariants.{Ahead, Keep, White}
-use Rattle.machine.specs.declared.Room.{Room}
-use Rattle.machine.specs.declared.Room.TheVariants.{Free, Full, Bad}
-use Rattle.machine.specs.declared.Job.{Job}
-use Rattle.machine.specs.declared.Job.TheVariants.{Idle, Busy}
+use Rattle.machine.specs.declared.Work.{Work}
 use Rattle.machine.specs.declared.Work.TheVariants.{Answering, Storing, Creating}
-use Rattle.machine.specs.declared.Survey.{Survey}
 use Rattle.turn.specs.Lent.{writing, collecting, Begun, beginning}
 use Rattle.turns.specs.Plain.{is_refused}
 
@@ -46,7 +42,7 @@ either P false x y h k = k
 
 module _ (rec : Record) (row : Row) (fs cs : List ℕ) where
   -- a turn that leaves the row if it is refused; and fields and colours too
-  abbrev Stays : WriterTurn → Type 0
+  abbrev Stays : RowTurn → Type 0
   Stays t = is_refused t.answer ≡ true → t.row ≡ row
 
   abbrev Still : Written → Type 0
@@ -57,21 +53,20 @@ module _ (rec : Record) (row : Row) (fs cs : List ℕ) where
   goes_on e = absurd (false≢true e)
 
   -- a turn behind tests, which may refuse it
-  tested : (ts : List (Bool × ℕ)) (t : WriterTurn) → Stays t → Stays (refuse (refused row) ts t)
+  tested : (ts : List (Bool × Refusal)) (t : RowTurn) → Stays t → Stays (refuse (refused row) ts t)
   tested ts t h = refuse-cases Stays _ ts t (λ k e. refl) (λ _. h)
 
-  tested_in : (ts : List (Bool × ℕ)) (o : Written) → Still o → Still (refuse (λ k. written (refused row k) fs cs) ts o)
+  tested_in : (ts : List (Bool × Refusal)) (o : Written) → Still o → Still (refuse (λ k. written (refused row k) fs cs) ts o)
   tested_in ts o h = refuse-cases Still _ ts o (λ k e. (refl, refl, refl)) (λ _. h)
 
   stays-answer : Stays (answer rec row)
   unfolding answer answer_to is_refused
   stays-answer = tested _ _ (tested _ _ (either Stays (posted rec.stage == 0) _ _ goes_on goes_on))
 
-  still-take : (s : ℕ) (r : Room) → Still (take row fs cs s r)
+  still-take : (s : ℕ) (r : Result ℕ Refusal) → Still (take row fs cs s r)
   unfolding take take_cell is_refused
-  still-take s (Free n) = goes_on
-  still-take s Full = λ e. (refl, refl, refl)
-  still-take s Bad = λ e. (refl, refl, refl)
+  still-take s (Ok n) = goes_on
+  still-take s (Err k) = λ e. (refl, refl, refl)
 
   still-storing : (s : Stored) (p : Plan) → Still (next_storing rec.n row fs cs s p)
   unfolding next_storing store_read store_gray store_write is_refused
@@ -94,12 +89,12 @@ module _ (rec : Record) (row : Row) (fs cs : List ℕ) where
   unfolding next_answering is_refused
   still-answering k = either Still (nat_lt k 8) _ _ (tested_in _ _ goes_on) goes_on
 
-  still-job : (j : Job) → Still (next_job rec row fs cs j)
+  still-job : (j : Option Work) → Still (next_job rec row fs cs j)
   unfolding next_job next_work
-  still-job Idle = λ e. (refl, refl, refl)
-  still-job (Busy (Answering k)) = still-answering k
-  still-job (Busy (Storing s p)) = still-storing s p
-  still-job (Busy (Creating m)) = still-creating m m.look
+  still-job None = λ e. (refl, refl, refl)
+  still-job (Some (Answering k)) = still-answering k
+  still-job (Some (Storing s p)) = still-storing s p
+  still-job (Some (Creating m)) = still-creating m m.look
 
   -- a turn of the row alone
   of_row : (call : Call) → Stays (turn_of rec row fs cs call).turn → (turn_of rec row fs cs call).fields ≡ fs → (turn_of rec row fs cs call).colours ≡ cs → Still (turn_of rec row fs cs call)
@@ -122,31 +117,29 @@ module _ (rec : Record) (row : Row) (fs cs : List ℕ) where
   write-still rows w call = tested_in _ _ (still-turn call)
 
 -- ---- the collector's turn: one that waits leaves the record too, and every one leaves n, g and m
-abbrev pub idles : Answer → Bool
-idles Done = false
-idles More = false
-idles Worked = false
-idles Waited = true
-idles (Refused k) = true
+abbrev pub idles : Answered → Bool
+idles (Ok Done) = false
+idles (Ok More) = false
+idles (Ok Worked) = false
+idles (Ok Waited) = true
+idles (Err k) = true
 
-pub refused-idles : (a : Answer) → is_refused a ≡ true → idles a ≡ true
+pub refused-idles : (a : Answered) → is_refused a ≡ true → idles a ≡ true
 unfolding is_refused
-refused-idles Done e = e
-refused-idles More e = e
-refused-idles Worked e = e
-refused-idles Waited e = refl
-refused-idles (Refused k) e = refl
+refused-idles (Ok a) e = absurd (false≢true e)
+refused-idles (Err k) e = refl
 
 -- what holds of each of its ends holds of it
-module _ (rec : Record) (seen : Survey) (fs cs : List ℕ) (P : Collected → Type 0) (stop : (k : ℕ) → P (barred rec cs k)) (wait : P (collected (waited rec) cs))
-    (work : (stage place part hold found count : ℕ) (cs' : List ℕ) → P (collected (record { answer = Worked; rec = at rec stage place part hold found count }) cs')) where
+module _ (rec : Record) (seen : Result Bool Refusal) (fs cs : List ℕ) (P : Collected → Type 0) (stop : (k : Refusal) → P (barred rec cs k)) (wait : P (collected (waited rec) cs))
+    (work : (stage place part hold found count : ℕ) (cs' : List ℕ) → P (collected (record { answer = Ok Worked; rec = at rec stage place part hold found count }) cs')) where
   in_waiting : (next : ℕ) → P (collected (waiting rec seen next) cs)
   unfolding waiting
-  in_waiting next = refuse-cases (λ (t : CollectorTurn). P (collected t cs)) _ _ _ stop (λ t. go seen.same)
+  in_waiting next = go seen
     where
-      go : (b : Bool) → P (collected (pick b (worked (entering rec next)) (waited rec)) cs)
-      go true = work _ _ _ _ _ _ _
-      go false = wait
+      go : (s : Result Bool Refusal) → P (collected (waiting rec s next) cs)
+      go (Ok true) = work _ _ _ _ _ _ _
+      go (Ok false) = wait
+      go (Err k) = stop k
 
   in_marking : P (marking rec seen cs)
   unfolding marking
@@ -190,7 +183,7 @@ module _ (rec : Record) (seen : Survey) (fs cs : List ℕ) (P : Collected → Ty
   unfolding collector_turn
   in_turn = refuse-cases P _ _ _ stop (λ t. in_stage rec.stage)
 
-module _ (rec : Record) (seen : Survey) (fs cs : List ℕ) where
+module _ (rec : Record) (seen : Result Bool Refusal) (fs cs : List ℕ) where
   abbrev Same : Collected → Type 0
   Same o = idles o.turn.answer ≡ true → (o.turn.rec ≡ rec) × (o.colours ≡ cs)
 
@@ -210,12 +203,13 @@ module _ (rec : Record) (seen : Survey) (fs cs : List ℕ) where
   collect-keeps rows = refuse-cases Keeps _ _ _ (λ k e. absurd (true≢false e)) (λ t. let l = (hold (limits_ok rec.n rec.g rec.m ∷ lengths_ok rec.n rec.m rows (length fs) (length cs) ∷ []) t.0).0 in
       in_turn rec seen fs cs Keeps (λ k e. absurd (true≢false e)) (λ e. (l, refl, refl, refl)) (λ stage place part hold found count cs' e. (l, refl, refl, refl)))
 
--- ---- start: refused, it leaves fields and colours; else the desk is to be filled
-module _ (n g m : ℕ) (rec : Record) (rows : ℕ) (fs cs : List ℕ) where
-  pub start-still : is_refused (beginning n g m rec rows fs cs).started.answer ≡ true → ((beginning n g m rec rows fs cs).fields ≡ fs) × ((beginning n g m rec rows fs cs).colours ≡ cs)
+-- ---- start: refused, it leaves fields and colours
+module _ (n g m rows : ℕ) (fs cs : List ℕ) where
+  pub start-still : is_refused (beginning n g m rows fs cs).started ≡ true → ((beginning n g m rows fs cs).fields ≡ fs) × ((beginning n g m rows fs cs).colours ≡ cs)
   unfolding beginning is_refused
-  start-still = refuse-cases (λ (b : Begun). is_refused b.started.answer ≡ true → (b.fields ≡ fs) × (b.colours ≡ cs)) _ _ _ (λ k e. (refl, refl)) (λ t e. absurd (false≢true e))
+  start-still = refuse-cases (λ (b : Begun). is_refused b.started ≡ true → (b.fields ≡ fs) × (b.colours ≡ cs)) _ _ _ (λ k e. (refl, refl)) (λ t e. absurd (false≢true e))
 
-  pub start_goes : is_refused (beginning n g m rec rows fs cs).started.answer ≡ false → (beginning n g m rec rows fs cs).started.go ≡ true
+  -- not refused, it begins with a fresh record
+  pub start_goes : is_refused (beginning n g m rows fs cs).started ≡ false → (beginning n g m rows fs cs).started ≡ Ok (fresh_record n g m)
   unfolding beginning is_refused
-  start_goes = refuse-cases (λ (b : Begun). is_refused b.started.answer ≡ false → b.started.go ≡ true) _ _ _ (λ k e. absurd (true≢false e)) (λ t e. refl)
+  start_goes = refuse-cases (λ (b : Begun). is_refused b.started ≡ false → b.started ≡ Ok (fresh_record n g m)) _ _ _ (λ k e. absurd (true≢false e)) (λ t e. refl)

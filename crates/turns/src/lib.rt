@@ -11,6 +11,7 @@ mod calls;
 mod plain;
 
 use crate::calls::{census_words, collect_words, start_words, write_words};
+use crate::plain::answer_number;
 use machine::Call;
 use moves::cycle_bound;
 
@@ -27,7 +28,7 @@ pub fn turns_lent_start(
     ensures { result_of result (lent numbers.new desk.new fields.new colours.new)
         ≡ start_by n g m (lent numbers.old desk.old fields.old colours.old) }
 {
-    start_words(numbers, desk, fields, colours, n, g, m)
+    answer_number(start_words(numbers, desk, fields, colours, n, g, m))
 }
 
 // Puts page p in slot s of writer w.
@@ -43,7 +44,7 @@ pub fn turns_lent_page(
     ensures { result_of result (lent numbers.now desk.new fields.new colours.new)
         ≡ write_by w (Call.Page p s) (lent numbers.now desk.old fields.old colours.old) }
 {
-    write_words(numbers, desk, fields, colours, w, Call::Page(p, s))
+    answer_number(write_words(numbers, desk, fields, colours, w, Call::Page(p, s)))
 }
 
 // Copies slot r to slot s.
@@ -59,7 +60,7 @@ pub fn turns_lent_copy(
     ensures { result_of result (lent numbers.now desk.new fields.new colours.new)
         ≡ write_by w (Call.Copy r s) (lent numbers.now desk.old fields.old colours.old) }
 {
-    write_words(numbers, desk, fields, colours, w, Call::Copy(r, s))
+    answer_number(write_words(numbers, desk, fields, colours, w, Call::Copy(r, s)))
 }
 
 // Empties slot r.
@@ -74,7 +75,7 @@ pub fn turns_lent_drop(
     ensures { result_of result (lent numbers.now desk.new fields.new colours.new)
         ≡ write_by w (Call.Drop r) (lent numbers.now desk.old fields.old colours.old) }
 {
-    write_words(numbers, desk, fields, colours, w, Call::Drop(r))
+    answer_number(write_words(numbers, desk, fields, colours, w, Call::Drop(r)))
 }
 
 // Puts field f of the cell in slot r into slot s.
@@ -91,7 +92,7 @@ pub fn turns_lent_read(
     ensures { result_of result (lent numbers.now desk.new fields.new colours.new)
         ≡ write_by w (Call.Read r f s) (lent numbers.now desk.old fields.old colours.old) }
 {
-    write_words(numbers, desk, fields, colours, w, Call::Read(r, f, s))
+    answer_number(write_words(numbers, desk, fields, colours, w, Call::Read(r, f, s)))
 }
 
 // Starts to store slot q into field f of the cell in slot r.
@@ -108,7 +109,7 @@ pub fn turns_lent_store(
     ensures { result_of result (lent numbers.now desk.new fields.new colours.new)
         ≡ write_by w (Call.Store r f q) (lent numbers.now desk.old fields.old colours.old) }
 {
-    write_words(numbers, desk, fields, colours, w, Call::Store(r, f, q))
+    answer_number(write_words(numbers, desk, fields, colours, w, Call::Store(r, f, q)))
 }
 
 // Starts to create a cell into slot s.
@@ -123,7 +124,7 @@ pub fn turns_lent_create(
     ensures { result_of result (lent numbers.now desk.new fields.new colours.new)
         ≡ write_by w (Call.Create s) (lent numbers.now desk.old fields.old colours.old) }
 {
-    write_words(numbers, desk, fields, colours, w, Call::Create(s))
+    answer_number(write_words(numbers, desk, fields, colours, w, Call::Create(s)))
 }
 
 // Answers the handshake that is posted.
@@ -137,7 +138,7 @@ pub fn turns_lent_answer(
     ensures { result_of result (lent numbers.now desk.new fields.new colours.new)
         ≡ write_by w Call.Answer (lent numbers.now desk.old fields.old colours.old) }
 {
-    write_words(numbers, desk, fields, colours, w, Call::Answer)
+    answer_number(write_words(numbers, desk, fields, colours, w, Call::Answer))
 }
 
 // The next turn of the writer's job.
@@ -151,7 +152,7 @@ pub fn turns_lent_next(
     ensures { result_of result (lent numbers.now desk.new fields.new colours.new)
         ≡ write_by w Call.Next (lent numbers.now desk.old fields.old colours.old) }
 {
-    write_words(numbers, desk, fields, colours, w, Call::Next)
+    answer_number(write_words(numbers, desk, fields, colours, w, Call::Next))
 }
 
 // A turn of the collector.
@@ -164,7 +165,7 @@ pub fn turns_lent_collect(
     ensures { result_of result (lent numbers.new desk.now fields.now colours.new)
         ≡ collect_by (lent numbers.old desk.now fields.now colours.old) }
 {
-    collect_words(numbers, desk, fields, colours)
+    answer_number(collect_words(numbers, desk, fields, colours))
 }
 
 // The census: its six counts are written, or left.
@@ -178,7 +179,7 @@ pub fn turns_lent_census(
     ensures { counted result counts.new
         ≡ census_by (lent numbers.now desk.now fields.now colours.now) counts.old }
 {
-    census_words(numbers, desk, fields, colours, counts)
+    answer_number(census_words(numbers, desk, fields, colours, counts))
 }
 
 // The most working turns that a cycle takes.

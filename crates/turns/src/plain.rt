@@ -1,13 +1,17 @@
-// Plain numbers and the machine's types, each made of the other. A number that does not fit its type becomes one that is out of range.
-ghost use Rattle.std.specs.Prelude.{◌≡◌, ◌+◌, ◌≤◌, true, ◌++◌, length, take, drop, slice_index_or};
+// Plain numbers and the machine's types, each made of the other. A number that does not fit its type becomes one that is out of range. They are
+// functions, since the types are another crate's and take no `From` or `TryFrom` here.
+#![tactic(auto, using(std::proofs::lemmas::Bool::Decides::nat_tests), unfolding(crate::specs::Plain::byte_of, crate::specs::Plain::word_of, crate::specs::Plain::hold_of, crate::specs::Plain::record_of, crate::specs::Plain::plan_of, crate::specs::Plain::look_of, crate::specs::Plain::storing_of, crate::specs::Plain::creating_of, crate::specs::Plain::job_of, crate::specs::Plain::row_of, crate::specs::Plain::plan_number, crate::specs::Plain::look_number, crate::specs::Plain::work_task, crate::specs::Plain::task_of, crate::specs::Plain::words_of, crate::specs::Plain::answer_number, crate::specs::Plain::with_row))]
+
+ghost use Rattle.std.specs.Prelude.{◌≡◌, ◌+◌, ◌<◌, ◌≤◌, ◌++◌, length, take, drop, slice_index_or};
+ghost use Rattle.std.specs.Option.{MatchOption};
 ghost use Rattle.machine.specs.Store.{fresh_row};
 ghost use Rattle.machine.specs.declared.Work.{Work};
-ghost use Rattle.turns.specs.Plain.{byte_of, word_of, hold_of, record_of, numbers_of, Standing, plan_of, look_of, outside, storing_of, creating_of, job_of, row_of, desk_of, plan_number, look_number, task_with, work_task, task_of, words_of, with_row, answer_number, is_refused};
+ghost use Rattle.turns.specs.Plain.{byte_of, word_of, hold_of, record_of, numbers_of, Standing, plan_of, look_of, outside, storing_of, creating_of, job_of, row_of, desk_of, task_with, work_task, task_of, words_of, with_row, answer_number};
 
-use machine::{Answer, Job, Look, Made, Plan, Record, Row, Stored, Work};
+use machine::{Answer, Look, Made, Plan, Record, Refusal, Row, Stored, Work};
 use turn::desk::fresh_row;
 
-// A job's words, in their order.
+// A job's words, in their order: C has no enum for a kind and its step.
 #[derive(Clone, Copy)]
 pub struct Task {
     pub kind: u16,
@@ -22,37 +26,28 @@ pub struct Task {
 fn byte_of(x: u32) -> u8
     ensures { result ≡ byte_of x }
 {
-    if x < 256 {
-        return x as u8;
-    }
-    255
+    u8::try_from(x).unwrap_or(255)
 }
 
 // A word as a byte.
 pub fn short_of(x: u16) -> u8
     ensures { result ≡ byte_of x }
 {
-    byte_of(x as u32)
+    byte_of(u32::from(x))
 }
 
 // A number as a word.
 fn word_of(x: u32) -> u16
     ensures { result ≡ word_of x }
 {
-    if x < 65536 {
-        return x as u16;
-    }
-    65535
+    u16::try_from(x).unwrap_or(65535)
 }
 
 // The same of the hold, where the largest word is none.
 fn hold_of(x: u32) -> u16
     ensures { result ≡ hold_of x }
 {
-    if x < 65536 {
-        return x as u16;
-    }
-    65534
+    u16::try_from(x).unwrap_or(65534)
 }
 
 // The record of nine numbers.
@@ -60,29 +55,34 @@ pub fn record_of(numbers: &[u32]) -> Record
     requires { length numbers.now ≡ 9 }
     ensures { result ≡ record_of numbers.now }
 {
+    let &[n, g, m, stage, place, part, hold, found, count] = numbers else {
+        unreachable!()
+    };
     Record {
-        n: word_of(numbers[0]),
-        g: word_of(numbers[1]),
-        m: word_of(numbers[2]),
-        stage: byte_of(numbers[3]),
-        place: word_of(numbers[4]),
-        part: byte_of(numbers[5]),
-        hold: hold_of(numbers[6]),
-        found: byte_of(numbers[7]),
-        count: numbers[8],
+        n: word_of(n),
+        g: word_of(g),
+        m: word_of(m),
+        stage: byte_of(stage),
+        place: word_of(place),
+        part: byte_of(part),
+        hold: hold_of(hold),
+        found: byte_of(found),
+        count,
     }
 }
 
 // All but n, g and m, which a turn never changes.
+#[tactic(auto, using(crate::proofs::Making::rest_put))]
 pub fn put_rest(numbers: &mut [u32], rec: Record)
     requires { Standing numbers.old rec }
     ensures { numbers.new ≡ numbers_of rec }
 {
-    numbers[3] = rec.stage as u32;
-    numbers[4] = rec.place as u32;
-    numbers[5] = rec.part as u32;
-    numbers[6] = rec.hold as u32;
-    numbers[7] = rec.found as u32;
+    // One by one: a call of `copy_from_slice` would make a turn of the collector slower.
+    numbers[3] = u32::from(rec.stage);
+    numbers[4] = u32::from(rec.place);
+    numbers[5] = u32::from(rec.part);
+    numbers[6] = u32::from(rec.hold);
+    numbers[7] = u32::from(rec.found);
     numbers[8] = rec.count;
 }
 
@@ -91,94 +91,93 @@ pub fn put_record(numbers: &mut [u32], rec: Record)
     requires { length numbers.old ≡ 9 }
     ensures { numbers.new ≡ numbers_of rec }
 {
-    numbers[0] = rec.n as u32;
-    numbers[1] = rec.g as u32;
-    numbers[2] = rec.m as u32;
+    numbers[..3].copy_from_slice(&[u32::from(rec.n), u32::from(rec.g), u32::from(rec.m)]);
     put_rest(numbers, rec);
 }
 
-// Only called with a number below 8.
-fn plan_of(step: u16) -> Plan
-    ensures { result ≡ plan_of step }
+// A store's plan, by its number.
+fn plan_of(step: u16) -> Option<Plan>
+    ensures { MatchOption result (8 ≤ step) (λ p. (step < 8) × (p ≡ plan_of step)) }
 {
     match step {
-        0 => Plan::FullRead,
-        1 => Plan::FullOld,
-        2 => Plan::FullNew,
-        3 => Plan::FullWrite,
-        4 => Plan::TracedRead,
-        5 => Plan::TracedOld,
-        6 => Plan::TracedWrite,
-        _ => Plan::BareWrite,
+        0 => Some(Plan::FullRead),
+        1 => Some(Plan::FullOld),
+        2 => Some(Plan::FullNew),
+        3 => Some(Plan::FullWrite),
+        4 => Some(Plan::TracedRead),
+        5 => Some(Plan::TracedOld),
+        6 => Some(Plan::TracedWrite),
+        7 => Some(Plan::BareWrite),
+        _ => None,
     }
 }
 
-// Only called with a number below 3.
-fn look_of(step: u16) -> Look
-    ensures { result ≡ look_of step }
+// What a creation's look decided, by its number.
+fn look_of(step: u16) -> Option<Look>
+    ensures { MatchOption result (3 ≤ step) (λ l. (step < 3) × (l ≡ look_of step)) }
 {
     match step {
-        0 => Look::Ahead,
-        1 => Look::Keep,
-        _ => Look::White,
+        0 => Some(Look::Ahead),
+        1 => Some(Look::Keep),
+        2 => Some(Look::White),
+        _ => None,
     }
 }
 
 // A job that is out of range.
-fn outside() -> Job
+fn outside() -> Option<Work>
     ensures { result ≡ outside }
 {
-    Job::Busy(Work::Answering(255))
+    Some(Work::Answering(255))
 }
 
-fn storing_of(t: Task) -> Job
+fn storing_of(t: Task) -> Option<Work>
     ensures { result ≡ storing_of t }
 {
-    if 8 <= t.step {
+    let Some(plan) = plan_of(t.step) else {
         return outside();
-    }
+    };
     let s = Stored {
         cell: t.cell,
         field: short_of(t.at),
         new: t.fresh,
         old: t.old,
     };
-    Job::Busy(Work::Storing(s, plan_of(t.step)))
+    Some(Work::Storing(s, plan))
 }
 
-fn creating_of(t: Task) -> Job
+fn creating_of(t: Task) -> Option<Work>
     ensures { result ≡ creating_of t }
 {
-    if 3 <= t.step {
+    let Some(look) = look_of(t.step) else {
         return outside();
-    }
+    };
     let m = Made {
         slot: short_of(t.at),
         cell: t.cell,
-        look: look_of(t.step),
+        look,
     };
-    Job::Busy(Work::Creating(m))
+    Some(Work::Creating(m))
 }
 
 // The job of six words.
-fn job_of(t: Task) -> Job
+fn job_of(t: Task) -> Option<Work>
     ensures { result ≡ job_of t }
 {
-    let kind = t.kind;
-    match kind {
-        0 => Job::Idle,
-        1 => Job::Busy(Work::Answering(short_of(t.step))),
+    match t.kind {
+        0 => None,
+        1 => Some(Work::Answering(short_of(t.step))),
         2 => storing_of(t),
         3 => creating_of(t),
         _ => outside(),
     }
 }
 
-// The row in the first 16 words.
-fn row_of(words: &[u16]) -> Row
-    requires { 16 ≤ length words.now }
+// The row in 16 words.
+fn row_of(words: &[u16; 16]) -> Row
     ensures { result ≡ row_of words.now }
 {
+    // Indexes: a pattern `slots @ ..` does not take an array out of an array yet.
     let t = Task {
         kind: words[9],
         step: words[10],
@@ -192,7 +191,7 @@ fn row_of(words: &[u16]) -> Row
     ];
     Row {
         status: short_of(words[0]),
-        slots: slots,
+        slots,
         job: job_of(t),
     }
 }
@@ -201,81 +200,52 @@ fn row_of(words: &[u16]) -> Row
 pub fn row_at(desk: &[u16], i: usize) -> Row
     ensures { result ≡ slice_index_or (desk_of desk.now) i fresh_row }
 {
-    if desk.len() / 16 <= i {
-        return fresh_row();
-    }
-    let at = i * 16;
-    row_of(&desk[at..])
-}
-
-fn plan_number(p: Plan) -> u16
-    ensures { result ≡ plan_number p }
-{
-    match p {
-        Plan::FullRead => 0,
-        Plan::FullOld => 1,
-        Plan::FullNew => 2,
-        Plan::FullWrite => 3,
-        Plan::TracedRead => 4,
-        Plan::TracedOld => 5,
-        Plan::TracedWrite => 6,
-        Plan::BareWrite => 7,
-    }
-}
-
-fn look_number(l: Look) -> u16
-    ensures { result ≡ look_number l }
-{
-    match l {
-        Look::Ahead => 0,
-        Look::Keep => 1,
-        Look::White => 2,
-    }
+    let (rows, _) = desk.as_chunks::<16>();
+    rows.get(i).map_or_else(fresh_row, row_of)
 }
 
 fn task_with(kind: u16, step: u16, cell: u16, at: u8, fresh: u16, old: u16) -> Task
     ensures { result ≡ task_with kind step cell at fresh old }
 {
     Task {
-        kind: kind,
-        step: step,
-        cell: cell,
-        at: at as u16,
-        fresh: fresh,
-        old: old,
+        kind,
+        step,
+        cell,
+        at: u16::from(at),
+        fresh,
+        old,
     }
 }
 
 fn storing_task(s: Stored, p: Plan) -> Task
     ensures { result ≡ work_task (Work.Storing s p) }
 {
-    task_with(2, plan_number(p), s.cell, s.field, s.new, s.old)
+    task_with(2, p as u16, s.cell, s.field, s.new, s.old)
 }
 
 fn creating_task(m: Made) -> Task
     ensures { result ≡ work_task (Work.Creating m) }
 {
-    let look = m.look;
-    task_with(3, look_number(look), m.cell, m.slot, 0, 0)
+    task_with(3, m.look as u16, m.cell, m.slot, 0, 0)
 }
 
 fn work_task(w: Work) -> Task
     ensures { result ≡ work_task w }
 {
     match w {
-        Work::Answering(k) => task_with(1, k as u16, 0, 0, 0, 0),
+        Work::Answering(k) => task_with(1, u16::from(k), 0, 0, 0, 0),
         Work::Storing(s, p) => storing_task(s, p),
         Work::Creating(m) => creating_task(m),
     }
 }
 
 // A job's six words.
-fn task_of(job: Job) -> Task
+fn task_of(job: Option<Work>) -> Task
     ensures { result ≡ task_of job }
 {
     match job {
-        Job::Idle => task_with(0, 0, 0, 0, 0, 0),
-        Job::Busy(w) => work_task(w),
+        None => task_with(0, 0, 0, 0, 0, 0),
+        Some(w) => work_task(w),
     }
 }
 
@@ -284,10 +254,9 @@ pub fn words_of(row: Row) -> [u16; 16]
     ensures { result ≡ words_of row }
 {
     let s = row.slots;
-    let job = row.job;
-    let t = task_of(job);
+    let t = task_of(row.job);
     [
-        row.status as u16,
+        u16::from(row.status),
         s[0],
         s[1],
         s[2],
@@ -307,14 +276,13 @@ pub fn words_of(row: Row) -> [u16; 16]
 }
 
 // The 16 words from place `at` on are written.
-pub fn copy_words(desk: &mut [u16], at: usize, words: [u16; 16])
+fn copy_words(desk: &mut [u16], at: usize, words: [u16; 16])
     requires { at + 16 ≤ length desk.old }
     ensures { desk.new ≡ take at desk.old ++ words ++ drop (at + 16) desk.old }
 {
-    let mut i: usize = 0;
-    while i < 16 {
+    // An index: a call of `copy_from_slice` would make a writer's turn a tenth slower.
+    for i in 0..16 {
         desk[at + i] = words[i];
-        i += 1;
     }
 }
 
@@ -322,32 +290,20 @@ pub fn copy_words(desk: &mut [u16], at: usize, words: [u16; 16])
 pub fn put_row(desk: &mut [u16], i: usize, row: Row)
     ensures { desk.new ≡ with_row desk.old i row }
 {
-    if desk.len() / 16 <= i {
-        return;
-    }
-    copy_words(desk, i * 16, words_of(row));
-}
-
-pub fn is_refused(a: Answer) -> bool
-    ensures { result ≡ is_refused a }
-{
-    match a {
-        Answer::Done => false,
-        Answer::More => false,
-        Answer::Worked => false,
-        Answer::Waited => false,
-        Answer::Refused(_) => true,
+    if i < desk.len() / 16 {
+        copy_words(desk, i * 16, words_of(row));
     }
 }
 
-pub fn answer_number(a: Answer) -> u32
-    ensures { result ≡ answer_number a }
+// An answer's number: a refusal's own, below 100, or one from 100 on.
+pub fn answer_number(answer: Result<Answer, Refusal>) -> u32
+    ensures { result ≡ answer_number answer }
 {
-    match a {
-        Answer::Done => 100,
-        Answer::More => 101,
-        Answer::Worked => 102,
-        Answer::Waited => 103,
-        Answer::Refused(k) => k as u32,
+    match answer {
+        Ok(Answer::Done) => 100,
+        Ok(Answer::More) => 101,
+        Ok(Answer::Worked) => 102,
+        Ok(Answer::Waited) => 103,
+        Err(refusal) => refusal.number().into(),
     }
 }

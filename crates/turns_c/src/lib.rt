@@ -1,4 +1,5 @@
-// The archive for C and Rust, libturns.a: each exported call is the call of the crate `turns` of the same name, with its promise.
+// The archive for C and Rust, libturns.a: each exported call is the call of the crate `turns` of the same name, with its promise. C takes functions
+// from a static library alone, and other crates stand on a library: so each call has a function in both.
 #![tactic(auto)]
 
 ghost use Rattle.std.specs.Prelude.{◌≡◌};

@@ -1,62 +1,56 @@
 // Answer: one turn, or ten.
+#![tactic(auto, using(std::proofs::lemmas::Bool::Decides::nat_tests), unfolding(machine::specs::Choice::refuse, machine::specs::Parts::with_status, machine::specs::Parts::with_job, machine::specs::Answering::answer_to, machine::specs::Answering::answer, machine::specs::Answering::next_answering))]
+
 ghost use Rattle.std.specs.Prelude.{◌≡◌};
 ghost use Rattle.machine.specs.Answering.{answer_to, answer, next_answering};
-ghost use Rattle.machine.specs.Turns.{written};
+ghost use Rattle.machine.specs.Turns.{by_row, written};
 
-use crate::rows::{answered, is_idle, refused, with_job, with_status};
+use crate::rows::{admitted, done, more};
 use cells::gray::{gray, gray_ok};
-use cells::range::sound;
 use cells::stage::posted;
-use machine::{Answer, Job, Record, Row, Work, WriterTurn};
+use machine::{Record, Refusal, Row, Work, WriterTurn};
 
-fn answer_to(number: u8, row: Row) -> WriterTurn
-    ensures { result ≡ answer_to number row }
+fn answer_to(number: u8, row: Row) -> Result<WriterTurn, Refusal>
+    ensures { by_row row result ≡ answer_to number row }
 {
     if row.status == number {
-        return refused(row, 5);
+        return Err(Refusal::NoTurn);
     }
     if number == 0 {
-        return WriterTurn {
-            answer: Answer::More,
-            row: with_job(row, Job::Busy(Work::Answering(0))),
-        };
+        return Ok(more(row, Work::Answering(0)));
     }
-    WriterTurn {
-        answer: Answer::Done,
-        row: with_status(row, number),
-    }
+    Ok(done(Row {
+        status: number,
+        ..row
+    }))
 }
 
-pub fn answer(rec: Record, row: Row) -> WriterTurn
-    ensures { result ≡ answer rec row }
+pub fn answer(rec: Record, row: Row) -> Result<WriterTurn, Refusal>
+    ensures { by_row row result ≡ answer rec row }
 {
-    if !sound(rec, row) {
-        return refused(row, 2);
-    }
-    let job = row.job;
-    if !is_idle(job) {
-        return refused(row, 4);
-    }
+    admitted(rec, row)?;
     answer_to(posted(rec.stage), row)
 }
 
-pub fn next_answering(row: Row, fields: &mut [u16], colours: &mut [u8], k: u8) -> WriterTurn
-    ensures { written result fields.new colours.new ≡ next_answering row fields.old colours.old k }
+pub fn next_answering(
+    row: Row,
+    fields: &mut [u16],
+    colours: &mut [u8],
+    k: u8,
+) -> Result<WriterTurn, Refusal>
+    ensures { written (by_row row result) fields.new colours.new ≡ next_answering row fields.old colours.old k }
 {
     if 8 <= k {
-        return WriterTurn {
-            answer: Answer::Done,
-            row: answered(row),
-        };
+        return Ok(done(Row {
+            status: 0,
+            job: None,
+            ..row
+        }));
     }
-    let i = k as usize;
-    let v = row.slots[i];
+    let v = row.slots[k as usize];
     if !gray_ok(colours, v) {
-        return refused(row, 2);
+        return Err(Refusal::BadNumber);
     }
     gray(colours, v);
-    WriterTurn {
-        answer: Answer::More,
-        row: with_job(row, Job::Busy(Work::Answering(k + 1))),
-    }
+    Ok(more(row, Work::Answering(k + 1)))
 }

@@ -1,38 +1,31 @@
 // Create into slot s: take, look, finish.
-ghost use Rattle.std.specs.Prelude.{◌≡◌, ◌+◌, ◌*◌, ◌<◌, ◌≤◌, length};
+#![tactic(auto, using(std::proofs::lemmas::Bool::Decides::nat_tests, crate::proofs::Facts::free_in), unfolding(machine::specs::Choice::every, machine::specs::Range::colour_ok, crate::specs::Used::used, machine::specs::Creating::decided, machine::specs::Creating::look, machine::specs::Creating::take, machine::specs::Creating::take_cell, machine::specs::Creating::create, machine::specs::Creating::next_creating, machine::specs::Choice::refuse))]
+
+ghost use Rattle.std.specs.Prelude.{◌≡◌, ◌+◌, ◌*◌, ◌<◌, ◌≤◌, length, Ok};
 ghost use Rattle.cells.specs.Sized.{Sized};
 ghost use Rattle.machine.specs.Choice.{all};
 ghost use Rattle.machine.specs.Creating.{lowest_free, emptied, take_cell, create, decided, look, finished, next_creating};
-ghost use Rattle.machine.specs.Turns.{written};
+ghost use Rattle.machine.specs.Turns.{by_row, written};
 ghost use Rattle.writer.specs.Used.{used, Past};
 
-use crate::rows::{filled, is_idle, refused, with_job};
+use crate::rows::{admitted, done, filled, more};
 use cells::NONE;
-use cells::range::{both, sound};
+use cells::range::both;
 use cells::stage::hand;
-use machine::{Answer, Job, Look, Made, Record, Room, Row, Work, WriterTurn};
+use machine::{Look, Made, Record, Refusal, Row, Work, WriterTurn};
 
 // The colour of a cell in use.
 fn used(b: u8) -> bool
     ensures { result ≡ used b }
 {
-    if b == 0 {
-        return false;
-    }
-    b <= 3
+    matches!(b, 1..=3)
 }
 
 // All these cells are in use.
 fn all_used(colours: &[u8]) -> bool
     ensures { result ≡ all used colours.now }
 {
-    let mut good = true;
-    let mut i: usize = 0;
-    while i < colours.len() {
-        good = both(good, used(colours[i]));
-        i += 1;
-    }
-    good
+    colours.iter().fold(true, |good, b| both(good, used(*b)))
 }
 
 // Stretches of 32 cells in use are passed over.
@@ -40,58 +33,38 @@ fn past_used(colours: &[u8]) -> usize
     requires { length colours.now ≤ 4096 }
     ensures { Past colours.now result }
 {
-    let mut i: usize = 0;
-    while i + 32 <= colours.len() {
-        let e = i + 32;
-        if !all_used(&colours[i..e]) {
-            return i;
-        }
-        i = e;
-    }
-    i
+    colours.chunks_exact(32).take_while(|c| all_used(c)).count() * 32
 }
 
 // Colours are read upward, to the first free cell.
-fn lowest_free(colours: &[u8]) -> Room
+#[tactic(auto, using(std::proofs::lemmas::Bool::Decides::nat_tests, crate::proofs::Frees::frees))]
+fn lowest_free(colours: &[u8]) -> Result<u16, Refusal>
     requires { length colours.now ≤ 4096 }
     ensures { result ≡ lowest_free 0 colours.now }
 {
-    let mut i = past_used(colours);
-    while i < colours.len() {
-        let b = colours[i];
-        if b == 0 {
-            return Room::Free(i as u16);
+    for i in past_used(colours)..colours.len() {
+        match colours[i] {
+            0 => return Ok(i as u16),
+            1..=3 => {}
+            _ => return Err(Refusal::BadNumber),
         }
-        if 3 < b {
-            return Room::Bad;
-        }
-        i += 1;
     }
-    Room::Full
+    Err(Refusal::Full)
 }
 
 fn empty_cell(fields: &mut [u16], n: u16)
     requires { n * 4 + 3 < length fields.old }
     ensures { fields.new ≡ emptied fields.old n }
 {
-    let i = (n as usize) * 4;
-    fields[i] = NONE;
-    fields[i + 1] = NONE;
-    fields[i + 2] = NONE;
-    fields[i + 3] = NONE;
+    let i = n as usize * 4;
+    fields[i..i + 4].fill(NONE);
 }
 
-fn take_cell(
-    cells: u16,
-    row: Row,
-    fields: &mut [u16],
-    colours: &mut [u8],
-    s: u32,
-    n: u16,
-) -> WriterTurn
-    requires sized { Sized cells fields.old colours.old }
-    requires n_lt_cells { (n < cells) × (s < 8) }
-    ensures { written result fields.new colours.new ≡ take_cell row fields.old colours.old s n }
+fn take_cell(row: Row, fields: &mut [u16], colours: &mut [u8], s: u32, n: u16) -> WriterTurn
+    requires fields_bound { n * 4 + 3 < length fields.old }
+    requires colours_bound { n < length colours.old }
+    requires slot_bound { s < 8 }
+    ensures { written (by_row row (Ok result)) fields.new colours.new ≡ take_cell row fields.old colours.old s n }
 {
     empty_cell(fields, n);
     colours[n as usize] = 3;
@@ -100,68 +73,49 @@ fn take_cell(
         cell: n,
         look: Look::Ahead,
     };
-    WriterTurn {
-        answer: Answer::More,
-        row: with_job(row, Job::Busy(Work::Creating(m))),
-    }
+    more(row, Work::Creating(m))
 }
 
-pub fn create(rec: Record, row: Row, fields: &mut [u16], colours: &mut [u8], s: u32) -> WriterTurn
+pub fn create(
+    rec: Record,
+    row: Row,
+    fields: &mut [u16],
+    colours: &mut [u8],
+    s: u32,
+) -> Result<WriterTurn, Refusal>
     requires { Sized rec.n fields.old colours.old }
-    ensures { written result fields.new colours.new ≡ create rec row fields.old colours.old s }
+    ensures { written (by_row row result) fields.new colours.new ≡ create rec row fields.old colours.old s }
 {
     if 8 <= s {
-        return refused(row, 3);
+        return Err(Refusal::NoSuch);
     }
-    if !sound(rec, row) {
-        return refused(row, 2);
-    }
-    let job = row.job;
-    if !is_idle(job) {
-        return refused(row, 4);
-    }
-    match lowest_free(colours) {
-        Room::Free(n) => take_cell(rec.n, row, fields, colours, s, n),
-        Room::Full => refused(row, 7),
-        Room::Bad => refused(row, 2),
-    }
+    admitted(rec, row)?;
+    let n = lowest_free(colours)?;
+    Ok(take_cell(row, fields, colours, s, n))
 }
 
 fn decided(rec: Record, row: Row, n: u16) -> Look
     ensures { result ≡ decided rec row n }
 {
-    if row.status != 0 {
-        return Look::White;
+    if row.status != 0 || n < hand(rec) {
+        Look::White
+    } else {
+        Look::Keep
     }
-    let h = hand(rec);
-    if n < h {
-        return Look::White;
-    }
-    Look::Keep
 }
 
 fn look_turn(rec: Record, row: Row, m: Made) -> WriterTurn
-    ensures { result ≡ look rec row m }
+    ensures { by_row row (Ok result) ≡ look rec row m }
 {
-    let t = Made {
-        slot: m.slot,
-        cell: m.cell,
-        look: decided(rec, row, m.cell),
-    };
-    WriterTurn {
-        answer: Answer::More,
-        row: with_job(row, Job::Busy(Work::Creating(t))),
-    }
+    let look = decided(rec, row, m.cell);
+    more(row, Work::Creating(Made { look, ..m }))
 }
 
 fn finish(row: Row, m: Made) -> WriterTurn
     requires { m.slot < 8 }
-    ensures { result ≡ finished row m }
+    ensures { by_row row (Ok result) ≡ finished row m }
 {
-    WriterTurn {
-        answer: Answer::Done,
-        row: filled(row, m.slot, m.cell),
-    }
+    done(filled(row, m.slot, m.cell))
 }
 
 pub fn next_creating(
@@ -173,10 +127,9 @@ pub fn next_creating(
 ) -> WriterTurn
     requires cell_in_bounds { m.cell < length colours.old }
     requires slot_bound { m.slot < 8 }
-    ensures { written result fields.new colours.new ≡ next_creating rec row fields.old colours.old m m.look }
+    ensures { written (by_row row (Ok result)) fields.new colours.new ≡ next_creating rec row fields.old colours.old m m.look }
 {
-    let l = m.look;
-    match l {
+    match m.look {
         Look::Ahead => look_turn(rec, row, m),
         Look::Keep => finish(row, m),
         Look::White => {

@@ -1,32 +1,37 @@
 // Next, and the call by its name.
+#![tactic(auto, using(std::proofs::lemmas::Bool::Decides::nat_tests, crate::proofs::Facts::stored_in, crate::proofs::Facts::made_in), unfolding(machine::specs::Choice::refuse, machine::specs::Writer::next, machine::specs::Writer::next_job, machine::specs::Writer::next_work, machine::specs::Writer::turn_of))]
+
 ghost use Rattle.std.specs.Prelude.{◌≡◌};
 ghost use Rattle.cells.specs.Sized.{Sized};
-ghost use Rattle.machine.specs.Turns.{written};
+ghost use Rattle.machine.specs.Turns.{by_row, written};
 ghost use Rattle.machine.specs.Writer.{next, turn_of};
 
 use crate::answering::{answer, next_answering};
 use crate::creating::{create, next_creating};
-use crate::rows::refused;
 use crate::slots::{copy, drop, page, read};
 use crate::storing::{next_storing, store};
 use cells::range::sound;
-use machine::{Call, Job, Record, Row, Work, WriterTurn};
+use machine::{Call, Record, Refusal, Row, Work, WriterTurn};
 
-pub fn next(rec: Record, row: Row, fields: &mut [u16], colours: &mut [u8]) -> WriterTurn
+pub fn next(
+    rec: Record,
+    row: Row,
+    fields: &mut [u16],
+    colours: &mut [u8],
+) -> Result<WriterTurn, Refusal>
     requires { Sized rec.n fields.old colours.old }
-    ensures { written result fields.new colours.new ≡ next rec row fields.old colours.old }
+    ensures { written (by_row row result) fields.new colours.new ≡ next rec row fields.old colours.old }
 {
     if !sound(rec, row) {
-        return refused(row, 2);
+        return Err(Refusal::BadNumber);
     }
-    let job = row.job;
-    let Job::Busy(work) = job else {
-        return refused(row, 5);
+    let Some(work) = row.job else {
+        return Err(Refusal::NoTurn);
     };
     match work {
         Work::Answering(k) => next_answering(row, fields, colours, k),
         Work::Storing(s, p) => next_storing(rec.n, row, fields, colours, s, p),
-        Work::Creating(m) => next_creating(rec, row, fields, colours, m),
+        Work::Creating(m) => Ok(next_creating(rec, row, fields, colours, m)),
     }
 }
 
@@ -37,9 +42,9 @@ pub fn turn_of(
     fields: &mut [u16],
     colours: &mut [u8],
     call: Call,
-) -> WriterTurn
+) -> Result<WriterTurn, Refusal>
     requires { Sized rec.n fields.old colours.old }
-    ensures { written result fields.new colours.new ≡ turn_of rec row fields.old colours.old call }
+    ensures { written (by_row row result) fields.new colours.new ≡ turn_of rec row fields.old colours.old call }
 {
     match call {
         Call::Page(p, s) => page(rec, row, p, s),

@@ -1,26 +1,35 @@
-use Rattle.std.proofs.Common.{◌++◌, ◌∙◌, refl, rules}
-use Rattle.std.proofs.lemmas.List.{at_drop_all}
-use Rattle.player.specs.Play.{total}
-use Rattle.playing.proofs.Written.{nothing_written, on_err, Written-InPart, Written-trans}
+use Rattle.std.proofs.Common.{◌∙◌, ◌++◌, ap, drop, sym}
+use Rattle.player.specs.Play.{output, total}
+use Rattle.player.proofs.Cut.{split}
+use Rattle.playing.proofs.Written.{left_over, on_err, output_begins, Written-InPart, Written-trans}
 use Rattle.playing.proofs.drain.Goals as goal
 
-pub loop-from-init : goal.loop-from-init
-loop-from-init g c = record { between = c.requires; written = nothing_written _ _ _ (λ rest. refl) }
+-- What stood in the player's buffer was written.
+pub loop-rest-preserved : goal.loop-rest-preserved
+loop-rest-preserved g c =
+    let l = c.loop-rest in
+    let p = c.feed-fed.new.self in
+    let q = c.flush.new.player in
+    let fed = c.feed-fed.result in
+    record {
+      empty = c.in_ok-flush.ensures.emptied.out;
+      written = Written-trans _ _ _ _ (λ rest. total l.player (l.rest.now ++ rest)) _ l.invariant.written (
+        output p,
+        c.in_ok-flush.ensures.all,
+        λ rest.
+            sym (c.feed-fed.ensures.text rest) ∙ split p q c.in_ok-flush.ensures.emptied (drop fed l.rest.now ++ rest)
+            ∙ ap (λ left. output p ++ total q (left ++ rest)) (sym (left_over l.rest.now fed)),
+      );
+    }
 
-pub loop-from-preserved : goal.loop-from-preserved
-loop-from-preserved g c = record {
-  between = c.send.ensures.between;
-  written = Written-trans _ _ _ _ _ _ c.loop-from.invariant.written c.in_ok-from.ensures.written;
-}
-
--- The chunk is at its end.
-pub returns-clause-written : goal.returns-clause-written
-returns-clause-written g c =
-    let l = c.loop-from in
-    let (w, appended, played) = l.invariant.written in
-    (w, appended, λ rest. played rest ∙ at_drop_all (λ bs. w ++ total l.line l.out l.fields l.colours l.play (bs ++ rest)) c.args.chunk.now l.from (search rules))
-
--- A write failed: what was written before and then.
-pub returns-in_err-from-clause-part : goal.returns-in_err-from-clause-part
-returns-in_err-from-clause-part g c =
-    on_err c.from_residual.result (Written-InPart _ _ _ _ _ c.loop-from.invariant.written c.in_err-from.ensures.part)
+-- A write failed: what was written before, and the first bytes of what stood in the player's buffer.
+pub returns-in_err-flush-clause-part : goal.returns-in_err-flush-clause-part
+returns-in_err-flush-clause-part g c =
+    let l = c.loop-rest in
+    let p = c.feed-fed.new.self in
+    let (w, appended, begins) = c.flush.ensures.part in
+    on_err c.from_residual.result (Written-InPart _ _ _ _ (λ rest. total l.player (l.rest.now ++ rest)) l.invariant.written (
+      w,
+      appended,
+      λ rest. output_begins p (drop c.feed-fed.result l.rest.now ++ rest) _ w (sym (c.feed-fed.ensures.text rest)) begins,
+    ))

@@ -1,17 +1,15 @@
--- Each call of `send` plays a byte or more, leaves the player between two chunks, and writes what they gave.
-use Rattle.std.proofs.Common.{◌-◌, ◌++◌, length, drop}
-use Rattle.player.specs.Play.{total}
-use Rattle.playing.specs.Between.{Between}
+-- Each turn plays a byte or more, leaves nothing in the player's buffer, and writes what the bytes gave.
+use Rattle.std.proofs.Common.{◌≡◌, [], ◌++◌, length}
+use Rattle.player.specs.Play.{output, total}
 use Rattle.playing.specs.Written.{Written}
 use Rattle.playing.proofs.drain.Given as goal
 
-abbrev pub invariant-loop-from : goal.invariant-loop-from
-invariant-loop-from g l = record {
-  between : Between l.line l.out l.fields l.colours l.play;
+abbrev pub invariant-loop-rest : goal.invariant-loop-rest
+invariant-loop-rest g l = record {
+  empty : output l.player ≡ [];
   written : Written (g.W.Write.contents l.initial.writer) (g.W.Write.contents l.writer)
-      (λ rest. total l.initial.line l.initial.out l.initial.fields l.initial.colours l.initial.play (l.chunk ++ rest))
-      (λ rest. total l.line l.out l.fields l.colours l.play (drop l.from l.chunk ++ rest));
+      (λ rest. total l.initial.player (l.chunk ++ rest)) (λ rest. total l.player (l.rest ++ rest));
 }
 
-abbrev pub decreases-loop-from : goal.decreases-loop-from
-decreases-loop-from g l = length l.chunk - l.from
+abbrev pub decreases-loop-rest : goal.decreases-loop-rest
+decreases-loop-rest g l = length l.rest

@@ -1,42 +1,23 @@
-use Rattle.std.proofs.Common.{rules, ap, sym, ◌∙◌, refl}
+use Rattle.std.proofs.Common.{sym}
 use Rattle.player.specs.Play.{total, played}
-use Rattle.playing.proofs.Text.{begun}
-use Rattle.playing.proofs.Written.{nothing_read, Continues-trans, Continues-Finishes, Continues-InPart, goes_on, on_err, stops}
+use Rattle.player.proofs.Cut.{at_first}
+use Rattle.playing.proofs.Written.{nothing_read, Continues-trans, Continues-InPart, continued, on_err}
 use Rattle.playing.proofs.play_all.Goals as goal
 
 pub loop-init : goal.loop-init
 loop-init g c =
-    let a = c.args in
-    let p = c.unstarted-play.result in
-    let begins = c.unstarted-play.ensures in
-    record {
-      between = search rules;
-      room = refl;
-      written = λ room. nothing_read _ _ _ _ (λ rest.
-          sym (ap (λ q. total a.line.now a.out.now a.fields.now a.colours.now q rest) begins.0 ∙ begun a.line.now a.out.now a.fields.now a.colours.now p.own begins.1 rest));
-    }
+    let player = c.new-player in
+    record { empty = player.ensures.out; written = nothing_read _ _ _ _ (λ rest. sym (at_first player.result player.ensures rest)) }
 
 pub loop-preserved : goal.loop-preserved
 loop-preserved g c =
-    let l = c.loop in
-    let d = c.read_some.new in
+    let next = continued c.in_ok-read_some.field-0 _ _ c.if-not-branch.false c.in_ok-read_some.ensures.played in
     record {
-      between = c.read_some.ensures.between;
-      room = c.read_some.auto.input ∙ l.invariant.room;
-      written = λ room.
-          let next = goes_on c.in_ok-read_some.field-0 _ _ c.if-not-branch.false (c.in_ok-read_some.ensures.played (search rules)) in
-          Continues-trans _ _ _ _ _ _ played (total l.line l.out l.fields l.colours l.play) (total d.line d.out d.fields d.colours d.play) (l.invariant.written room) next;
+      empty = c.in_ok-read_some.ensures.empty;
+      written = Continues-trans _ _ _ _ _ _ played (total c.loop.player) (total c.read_some.new.player) c.loop.invariant.written next;
     }
-
-pub returns-then-not-branch-clause-played : goal.returns-then-not-branch-clause-played
-returns-then-not-branch-clause-played g c = λ room.
-    let l = c.loop in
-    let last = stops c.in_ok-read_some.field-0 _ _ c.if-not-branch.true (c.in_ok-read_some.ensures.played (search rules)) in
-    Continues-Finishes _ _ _ _ _ played (total l.line l.out l.fields l.colours l.play) (l.invariant.written room) last
 
 -- What was read before was played and written, and then a part of what came last.
 pub returns-in_err-read_some-clause-part : goal.returns-in_err-read_some-clause-part
-returns-in_err-read_some-clause-part g c = λ room.
-    let l = c.loop in
-    on_err c.from_residual.result
-    (Continues-InPart _ _ _ _ _ played (total l.line l.out l.fields l.colours l.play) (l.invariant.written room) (c.in_err-read_some.ensures.part (search rules)))
+returns-in_err-read_some-clause-part g c =
+    on_err c.from_residual.result (Continues-InPart _ _ _ _ _ played (total c.loop.player) c.loop.invariant.written c.in_err-read_some.ensures.part)

@@ -1,12 +1,14 @@
-use Prim.Native.Nat.{◌≤◌, ◌<◌, ◌-◌, ◌^◌}
+use Prim.Native.Nat.{◌<◌, ◌^◌}
 use mathlib.Core.Path.{◌≡◌}
-use lib.ListN.{length, drop}
+use lib.ListN.{drop}
 use Rattle.machine.specs.Choice.{all}
-use Rattle.lines.specs.Numbers.{is_digit, value_from}
+use Rattle.std.specs.Char.{is_ascii_digit}
+use Rattle.lines.specs.Numbers.{value_from}
 use Rattle.lines.proofs.numbers.read_number.Given as goal
 
-abbrev pub invariant-loop-i : goal.invariant-loop-i
-invariant-loop-i l = (l.i ≤ length l.f) × (l.v < 10 ^ l.i) × (all is_digit l.f ≡ all is_digit (drop l.i l.f)) × (value_from l.v (drop l.i l.f) ≡ value_from 0 l.f)
-
-abbrev pub decreases-loop-i : goal.decreases-loop-i
-decreases-loop-i l = length l.f - l.i
+abbrev pub invariant-loop-b : goal.invariant-loop-b
+invariant-loop-b l = record {
+  small : l.n < 10 ^ l.b-index;
+  digits : all is_ascii_digit l.field ≡ all is_ascii_digit (drop l.b-index l.field);
+  value : value_from l.n (drop l.b-index l.field) ≡ value_from 0 l.field;
+}

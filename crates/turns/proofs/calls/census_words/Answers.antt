@@ -1,21 +1,24 @@
-use borrow.Author.Rules.{rules}
-use Rattle.cells.proofs.Refusing.{refusals}
-use Rattle.turns.specs.Calls.{census_by}
-use Rattle.turns.proofs.Ending.{fits, equals}
+use Rattle.std.proofs.Common.{arith, sym, ◌∙◌}
+use Rattle.turns.proofs.Counting.{census_shapeless, census_unsix, census_crowded, census_kept, census_put}
 use Rattle.turns.proofs.calls.census_words.Goals as goal
+use Rattle.turns.proofs.calls.census_words.Goals.{then-not-shaped-via-then-not-shaped, then-not-shaped-via-else-not-shaped+then-counts-ne6}
 
 pub returns-then-not-shaped : goal.returns-then-not-shaped
-unfolding census_by
-returns-then-not-shaped c = search (refusals, equals) depth 10 fits 9000
+returns-then-not-shaped c =
+    elim c.then-not-shaped.branch [
+      | then-not-shaped-via-then-not-shaped w ↦ census_shapeless _ _ _ _ _ (sym c.shaped.ensures ∙ w.if-not-shaped.true)
+      | then-not-shaped-via-else-not-shaped+then-counts-ne6 w ↦ census_unsix _ _ _ _ _ (sym c.shaped.ensures ∙ w.if-not-shaped.false) w.if-counts-ne6.true
+    ]
 
-pub returns-then-counts-ne6 : goal.returns-then-counts-ne6
-unfolding census_by
-returns-then-counts-ne6 c = search (refusals, equals) depth 10 fits 9000
+pub returns-then-rows-gt8 : goal.returns-then-rows-gt8
+returns-then-rows-gt8 c = census_crowded _ _ _ _ _ (sym c.shaped.ensures ∙ c.if-not-shaped.false) c.if-counts-ne6.false (omega arith)
 
-pub census_shaped-requires : goal.census_shaped-requires
-unfolding census_by
-census_shaped-requires c = search (rules, fits)
+pub returns-in_err-c : goal.returns-in_err-c
+returns-in_err-c c =
+    let h = census_kept c.args.numbers.now c.args.desk.now c.args.fields.now c.args.colours.now c.args.counts.now (sym c.shaped.ensures ∙ c.if-not-shaped.false) c.if-counts-ne6.false _ _ c.gather-own.ensures (rw c.record_of-rec.ensures at c.in_err-c.ensures) in
+    grind arith
 
 pub returns : goal.returns
-unfolding census_by
-returns c = search (refusals, equals) depth 10 fits 9000
+returns c =
+    census_put c.args.numbers.now c.args.desk.now c.args.fields.now c.args.colours.now c.args.counts.now (sym c.shaped.ensures ∙ c.if-not-shaped.false) c.if-counts-ne6.false _ _ _ c.gather-own.ensures
+    (rw c.record_of-rec.ensures at c.in_ok-c.ensures) (grind arith)

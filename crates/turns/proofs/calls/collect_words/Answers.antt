@@ -1,16 +1,19 @@
-use Rattle.cells.proofs.Refusing.{refusals}
-use Rattle.turns.specs.Calls.{called}
-use Rattle.turns.proofs.Ending.{fits}
+use Rattle.std.proofs.Common.{arith, sym, ◌∙◌}
+use Rattle.turns.proofs.Ending.{collect_refused, collect_stands, collect_put}
 use Rattle.turns.proofs.calls.collect_words.Goals as goal
 
-pub returns-then-not-shaped : goal.returns-then-not-shaped
-unfolding called
-returns-then-not-shaped c = search refusals depth 10 fits 9000
+pub returns-in_err-turn : goal.returns-in_err-turn
+returns-in_err-turn c =
+    let h = collect_refused c.args.numbers.now c.args.desk.now c.args.fields.now c.args.colours.now (sym c.shaped.ensures ∙ c.if-not-shaped.false) _ _
+    (rw (c.survey_words-seen.ensures, c.record_of-rec.ensures) at c.in_err-turn.ensures) in
+    grind arith
 
-pub collect_shaped-requires : goal.collect_shaped-requires
-unfolding called
-collect_shaped-requires c = search fits
+pub put_rest-requires : goal.put_rest-requires
+put_rest-requires c =
+    collect_stands c.args.numbers.now c.args.desk.now c.args.fields.now c.args.colours.now (sym c.shaped.ensures ∙ c.if-not-shaped.false) _ _ _
+    (rw (c.survey_words-seen.ensures, c.record_of-rec.ensures) at c.in_ok-turn.ensures)
 
 pub returns : goal.returns
-unfolding called
-returns c = search refusals depth 10 fits 9000
+returns c =
+    collect_put c.args.numbers.now c.args.desk.now c.args.fields.now c.args.colours.now (sym c.shaped.ensures ∙ c.if-not-shaped.false) _ _ _ _
+    (rw (c.survey_words-seen.ensures, c.record_of-rec.ensures) at c.in_ok-turn.ensures) c.put_rest.ensures

@@ -1,12 +1,10 @@
-use borrow.Author.Rules.{rules}
-use Rattle.cells.proofs.Looping.{tests, tested-next}
+use Rattle.std.proofs.Common.{rules, true, [], ◌∷◌}
+use Rattle.std.proofs.lemmas.Iterator.{YieldsList-from_slice}
+use Rattle.std.proofs.lemmas.Iterator.Consumers.{fold_from_yields_List}
+use Rattle.machine.specs.Choice.{every}
+use Rattle.cells.proofs.Looping.{all-fold}
+use Rattle.writer.specs.Used.{used}
 use Rattle.writer.proofs.creating.all_used.Goals as goal
 
-pub loop-i-init : goal.loop-i-init
-loop-i-init c = search (rules, tests)
-
-pub loop-i-preserved : goal.loop-i-preserved
-loop-i-preserved c = tested-next _ _ _ _ _ c.loop-i.invariant _ _ c.loop-i-test.true c.used.ensures c.both-good.ensures
-
 pub returns : goal.returns
-returns c = search tests
+returns c = rw (all-fold used c.args.colours.now) (fold_from_yields_List _ (λ a v. every (a ∷ used v ∷ [])) true c.fold.result c.fold.ensures.ran (YieldsList-from_slice c.args.colours.now cc) (λ a x b q k. search rules))

@@ -1,8 +1,0 @@
-use Rattle.cells.proofs.Testing.{everys}
-use Rattle.cells.proofs.Choosing.{picks}
-use Rattle.machine.specs.Range.{colour_ok}
-use Rattle.cells.proofs.range.colour_ok.Goals as goal
-
-pub returns : goal.returns
-unfolding colour_ok
-returns c = search (everys, picks) depth 10 fits 9000

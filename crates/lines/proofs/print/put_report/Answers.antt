@@ -1,7 +1,0 @@
-use Rattle.lines.specs.Output.{out_line}
-use Rattle.lines.proofs.Written.{also}
-use Rattle.lines.proofs.print.put_report.Goals as goal
-
-pub returns-clause-wrote : goal.returns-clause-wrote
-unfolding out_line
-returns-clause-wrote c = search also depth 8

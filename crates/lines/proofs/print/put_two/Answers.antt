@@ -1,7 +1,0 @@
-use Rattle.lines.specs.Output.{parted}
-use Rattle.lines.proofs.Written.{also}
-use Rattle.lines.proofs.print.put_two.Goals as goal
-
-pub returns-clause-wrote : goal.returns-clause-wrote
-unfolding parted
-returns-clause-wrote c = search also depth 8

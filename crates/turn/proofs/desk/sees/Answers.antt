@@ -1,5 +1,0 @@
-use Rattle.turn.proofs.Seeing.{sees_of}
-use Rattle.turn.proofs.desk.sees.Goals as goal
-
-pub returns : goal.returns
-returns c = search sees_of

@@ -1,8 +1,0 @@
-use Rattle.cells.proofs.Refusing.{refusals}
-use Rattle.writer.proofs.Arms.{turns}
-use Rattle.machine.specs.Parts.{with_status}
-use Rattle.writer.proofs.rows.with_status.Goals as goal
-
-pub returns : goal.returns
-unfolding with_status
-returns c = search (refusals, turns) depth 10 fits 9000
