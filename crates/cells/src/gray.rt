@@ -1,4 +1,4 @@
-// To gray a number.
+// To gray a number. A colour is a number here and in the turns, for lent memory may hold any byte.
 #![tactic(auto, using(std::proofs::lemmas::Bool::Decides::nat_tests), unfolding(machine::specs::Gray::grayed, machine::specs::Gray::gray_ok, machine::specs::Range::colour_ok))]
 
 ghost use Rattle.std.specs.Prelude.{◌≡◌};

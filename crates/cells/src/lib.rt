@@ -6,5 +6,4 @@ pub mod limits;
 pub mod range;
 pub mod stage;
 
-// An empty field or slot, in the lent memory a number.
-pub const NONE: u16 = 65535;
+pub use machine::NONE;

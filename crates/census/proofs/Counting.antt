@@ -5,6 +5,7 @@ use native.Mathlib.Omega.{arith}
 use native.Mathlib.Numerals.{add-one}
 use native.Mathlib.Decide.{ℕ_discrete}
 use borrow.Author.Tests.{eq-eqb, ne_eqb}
+use Rattle.std.proofs.lemmas.Bool.{false_from_ne_true}
 use mir.Val.{bool_byte}
 use Rattle.std.proofs.lemmas.List.{length-take}
 use Rattle.machine.specs.Choice.{pick}
@@ -35,7 +36,7 @@ unfolding tail
 tail_at [] c = refl
 tail_at (x ∷ xs) c = refl
 
-pub marks-count : (l r m : List ℕ) → length l ≤ length m → ((c : ℕ) → get_or m c 0 ≡ 1 → (colour_of l c ≢ 0) × (colour_of r c ≡ 0)) → ((c : ℕ) → colour_of l c ≢ 0 → colour_of r c ≡ 0 → get_or m c 0 ≡ 1) → ((c : ℕ) → colour_of r c ≢ 0 → colour_of l c ≢ 0)
+pub marks-count : (l r : List ℕ) (m : List Bool) → length l ≤ length m → ((c : ℕ) → get_or m c false ≡ true → (colour_of l c ≢ 0) × (colour_of r c ≡ 0)) → ((c : ℕ) → colour_of l c ≢ 0 → colour_of r c ≡ 0 → get_or m c false ≡ true) → ((c : ℕ) → colour_of r c ≢ 0 → colour_of l c ≢ 0)
     → in_use r + length l ≡ in_use l + unmarked m (length l)
 unfolding in_use unmarked
 marks-count [] r m b f g h = let e = none_left r (λ c. zero-at c (ℕ_discrete (colour_of r c) 0)) in omega arith
@@ -53,16 +54,16 @@ marks-count (x ∷ xs) r (y ∷ m) b f g h =
     (λ c u. h (suc c) (λ q. u (tail_at r c ∙ q)))))
   where
     go : Dec (x ≡ 0) → Dec (head r ≡ 0) → in_use (tail r) + length xs ≡ in_use xs + unmarked m (length xs) → pick (eqb (head r) 0) (in_use (tail r)) (suc (in_use (tail r))) + suc (length xs) ≡ in_use (x ∷ xs) + unmarked (y ∷ m) (suc (length xs))
-    go (yes e) (yes q) z = rw (eq-eqb x 0 e, eq-eqb (head r) 0 q, ne_eqb y 1 (λ o. (f 0 o).0 e), in_use, unmarked) (omega arith)
+    go (yes e) (yes q) z = rw (eq-eqb x 0 e, eq-eqb (head r) 0 q, false_from_ne_true y (λ o. (f 0 o).0 e), in_use, unmarked) (omega arith)
     go (yes e) (no q) z = absurd (h 0 q e)
-    go (no e) (yes q) z = rw (ne_eqb x 0 e, eq-eqb (head r) 0 q, eq-eqb y 1 (g 0 e q), in_use, unmarked) (omega arith)
-    go (no e) (no q) z = rw (ne_eqb x 0 e, ne_eqb (head r) 0 q, ne_eqb y 1 (λ o. q (f 0 o).1), in_use, unmarked) (omega arith)
+    go (no e) (yes q) z = rw (ne_eqb x 0 e, eq-eqb (head r) 0 q, g 0 e q, in_use, unmarked) (omega arith)
+    go (no e) (no q) z = rw (ne_eqb x 0 e, ne_eqb (head r) 0 q, false_from_ne_true y (λ o. q (f 0 o).1), in_use, unmarked) (omega arith)
 
--- an array of zeros marks nothing
-pub zeros : (n c : ℕ) → ◌≡◌ {A = ℕ} (get_or (replicate n 0) c 0) 0
-zeros zero c = refl
-zeros (suc n) zero = refl
-zeros (suc n) (suc c) = zeros n c
+-- where no cell is marked, none is
+pub blank : (n c : ℕ) → get_or (replicate n false) c false ≡ false
+blank zero c = refl
+blank (suc n) zero = refl
+blank (suc n) (suc c) = blank n c
 
 -- ---- colours
 tally-le : (b : ℕ) (l : List ℕ) → tally b l ≤ length l

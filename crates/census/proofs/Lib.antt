@@ -1,3 +1,4 @@
 pub mod Walks
 pub mod Marks
 pub mod Counting
+pub mod ByValue

@@ -1,12 +1,12 @@
 -- What the walk keeps true, and what it ends in.
-use Rattle.std.specs.Prelude.{◌≡◌, ℕ, zero, suc, ◌+◌, ◌*◌, ◌<◌, ◌≤◌, ◌⊎◌, List, [], ◌∷◌, ◌++◌, length, get_or, set, replicate}
+use Rattle.std.specs.Prelude.{◌≡◌, ℕ, zero, suc, ◌+◌, ◌*◌, ◌<◌, ◌≤◌, ◌⊎◌, Bool, true, false, List, [], ◌∷◌, ◌++◌, length, get_or, set, replicate}
 use Rattle.std.specs.Borrow.{Bor}
 use Rattle.std.specs.List.{range_with_len}
-use mathlib.Core.Path.{refl, ap, ◌∙◌}
+use mathlib.Core.Path.{refl, sym, ap, ◌∙◌}
 use mathlib.Core.Logic.{inl, inr}
 use native.Mathlib.Omega.{arith}
 use native.Mathlib.Decide.{ℕ_discrete}
-use borrow.Author.Tests.{ne_eqb}
+use Rattle.std.proofs.lemmas.Bool.{false_from_ne_true, true≢false}
 use lib.ListN.{length-append, length-replicate}
 use lib.Seq.{get_or-set_same, get_or-set_other}
 use Rattle.machine.specs.Parts.{field_of}
@@ -21,15 +21,15 @@ use Rattle.census.specs.declared.reach.Walk.{Walk}
 use Rattle.census.specs.Room.{unmarked, Room}
 use Rattle.census.specs.Walk.{Used, On, missing, waiting, Fresh, Pushed, stays, new, Pushing}
 use Rattle.census.proofs.Walks.{used-below, fewer}
-use Rattle.census.proofs.Counting.{marks-count, zeros}
+use Rattle.census.proofs.Counting.{marks-count, blank}
 
 -- ---- one push: nothing is unmarked, v is marked, and marks missing and places taken stay the same together
-on-set : (m : List ℕ) (x c : ℕ) → x < length m → get_or m c 0 ≡ 1 → Dec (c ≡ x) → get_or (set m x 1) c 0 ≡ 1
-on-set m x c b p (yes e) = rw (e, get_or-set_same m x 1 0 b)
-on-set m x c b p (no n) = rw (get_or-set_other m x c 1 0 n) p
+on-set : (m : List Bool) (x c : ℕ) → x < length m → get_or m c false ≡ true → Dec (c ≡ x) → get_or (set m x true) c false ≡ true
+on-set m x c b p (yes e) = rw (e, get_or-set_same m x true false b)
+on-set m x c b p (no n) = rw (get_or-set_other m x c true false n) p
 
-set_on : (m : List ℕ) (x c : ℕ) → get_or (set m x 1) c 0 ≡ 1 → (c ≡ x → ⊥) → get_or m c 0 ≡ 1
-set_on m x c p n = rw (get_or-set_other m x c 1 0 n) at p
+set_on : (m : List Bool) (x c : ℕ) → get_or (set m x true) c false ≡ true → (c ≡ x → ⊥) → get_or m c false ≡ true
+set_on m x c p n = rw (get_or-set_other m x c true false n) at p
 
 in-marks : (w : Walk) (x : ℕ) → Used w x → x < length w.marks
 in-marks w x u = omega (arith, used-below w.colours.now x u, w.room.cells, w.room.marks)
@@ -40,7 +40,7 @@ pushed_keeps {w} {x} (new n) c p = rw n.marks (on-set w.marks x c (in-marks w x 
 
 pushed_on : {w : Walk} {x : ℕ} {w' : Walk} → Pushed w x w' → Used w x → On w' x
 pushed_on (stays h) k = h k
-pushed_on {w} {x} (new n) k = rw n.marks (get_or-set_same w.marks x 1 0 (in-marks w x n.used))
+pushed_on {w} {x} (new n) k = rw n.marks (get_or-set_same w.marks x true false (in-marks w x n.used))
 
 pushed_sum : {w : Walk} {x : ℕ} {w' : Walk} → Pushed w x w' → missing w' + waiting w' ≡ missing w + waiting w
 pushed_sum (stays h) = refl
@@ -110,20 +110,20 @@ page-below (suc g) c (inl e) = omega arith
 page-below (suc g) c (inr i) = let h = page-below g c i in omega arith
 
 -- ---- the walk begins: nothing is marked
-none-on : (c : ℕ) → ◌≡◌ {A = ℕ} (get_or (replicate 4096 0) c 0) 1 → ⊥
-none-on c p = let e = zeros 4096 c in omega arith
+none-on : (c : ℕ) → get_or (replicate 4096 false) c false ≡ true → ⊥
+none-on c p = true≢false (sym p ∙ blank 4096 c)
 
-unmarked-none : (m : List ℕ) (n : ℕ) → ((c : ℕ) → get_or m c 0 ≡ 1 → ⊥) → unmarked m n ≡ n
+unmarked-none : (m : List Bool) (n : ℕ) → ((c : ℕ) → get_or m c false ≡ true → ⊥) → unmarked m n ≡ n
 unfolding unmarked
 unmarked-none m zero h = refl
 unmarked-none [] (suc n) h = ap suc (unmarked-none [] n (λ c. h c))
-unmarked-none (y ∷ m) (suc n) h = rw (ne_eqb y 1 (h 0), unmarked-none m n (λ c. h (suc c)))
+unmarked-none (y ∷ m) (suc n) h = rw (false_from_ne_true y (h 0), unmarked-none m n (λ c. h (suc c)))
 
-pub fresh_room : (colours stack : List ℕ) → length colours ≤ 4096 → stack ≡ [] → Room colours (replicate 4096 0) stack
+pub fresh_room : (colours stack : List ℕ) → length colours ≤ 4096 → stack ≡ [] → Room colours (replicate 4096 false) stack
 fresh_room colours stack b e = record {
   cells = b;
-  marks = length-replicate {A = ℕ} 4096 0;
-  places = omega (arith, unmarked-none (replicate 4096 0) (length colours) none-on, ap length e);
+  marks = length-replicate {A = Bool} 4096 false;
+  places = omega (arith, unmarked-none (replicate 4096 false) (length colours) none-on, ap length e);
 }
 
 -- no cell is being opened

@@ -1,5 +1,5 @@
 -- How the walk goes: one push, and the pushes of the loops.
-use Rattle.std.specs.Prelude.{◌≡◌, ℕ, zero, suc, ◌+◌, ◌-◌, ◌*◌, ◌<◌, ◌≤◌, ◌≢◌, Bool, true, false, eqb, List, [], ◌∷◌, ◌++◌, length, get_or, take, drop, set}
+use Rattle.std.specs.Prelude.{◌≡◌, ℕ, zero, suc, ◌+◌, ◌-◌, ◌*◌, ◌<◌, ◌≤◌, ◌≢◌, Bool, true, false, List, [], ◌∷◌, ◌++◌, length, get_or, take, drop, set}
 use Rattle.std.specs.List.{FoldsTo, range_with_len}
 use Rattle.std.proofs.lemmas.Fn.{FoldsTo-push}
 use Rattle.std.proofs.Common.{append_assoc, append-nil}
@@ -7,7 +7,6 @@ use Rattle.std.proofs.lemmas.List.{take_more}
 use mathlib.Core.Path.{refl, sym, ap, ◌∙◌}
 use native.Mathlib.Omega.{arith}
 use native.Mathlib.Numerals.{add-one}
-use borrow.Author.Tests.{ne_eqb}
 use lib.ListN.{length-set}
 use lib.Seq.{drop-cons}
 use Rattle.machine.specs.Choice.{pick}
@@ -16,7 +15,7 @@ use Rattle.machine.specs.Census.{slots, fields_of}
 use Rattle.machine.specs.declared.Row.{Row}
 use Rattle.census.specs.declared.reach.Walk.{Walk}
 use Rattle.census.specs.Room.{unmarked, Room}
-use Rattle.census.specs.Walk.{On, Pushed, stays, Pushing}
+use Rattle.census.specs.Walk.{On, Off, Pushed, stays, Pushing}
 
 -- a cell in use is a cell
 pub used-below : (colours : List ℕ) (c : ℕ) → colour_of colours c ≢ 0 → c < length colours
@@ -38,27 +37,27 @@ pub marked_stays : (w : Walk) (v : ℕ) → On w v → Pushed w v w
 marked_stays w v h = stays (λ u. h)
 
 -- ---- how many are not marked: a new mark counts once
-unmarked-set : (m : List ℕ) (v n : ℕ) → v < length m → get_or m v 0 ≢ 1 → v < n → suc (unmarked (set m v 1) n) ≡ unmarked m n
+unmarked-set : (m : List Bool) (v n : ℕ) → v < length m → get_or m v false ≡ false → v < n → suc (unmarked (set m v true) n) ≡ unmarked m n
 unfolding unmarked
 unmarked-set [] v n b q h = absurd (omega arith)
 unmarked-set (y ∷ m) v zero b q h = absurd (omega arith)
-unmarked-set (y ∷ m) zero (suc n) b q h = rw (ne_eqb y 1 q)
-unmarked-set (y ∷ m) (suc v) (suc n) b q h = go (eqb y 1) (unmarked-set m v n (omega arith) q (omega arith))
+unmarked-set (y ∷ m) zero (suc n) b q h = rw q refl
+unmarked-set (y ∷ m) (suc v) (suc n) b q h = go y (unmarked-set m v n (omega arith) q (omega arith))
   where
-    go : (t : Bool) → suc (unmarked (set m v 1) n) ≡ unmarked m n → suc (pick t (unmarked (set m v 1) n) (suc (unmarked (set m v 1) n))) ≡ pick t (unmarked m n) (suc (unmarked m n))
+    go : (t : Bool) → suc (unmarked (set m v true) n) ≡ unmarked m n → suc (pick t (unmarked (set m v true) n) (suc (unmarked (set m v true) n))) ≡ pick t (unmarked m n) (suc (unmarked m n))
     go true e = e
     go false e = ap suc e
 
 -- so there is a place for a cell that is not marked, and room as before once it is there
-module _ (w : Walk) (v : ℕ) (h : v < length w.colours.now) (q : On w v → ⊥) where
-  pub fewer : suc (unmarked (set w.marks v 1) (length w.colours.now)) ≡ unmarked w.marks (length w.colours.now)
+module _ (w : Walk) (v : ℕ) (h : v < length w.colours.now) (q : Off w v) where
+  pub fewer : suc (unmarked (set w.marks v true) (length w.colours.now)) ≡ unmarked w.marks (length w.colours.now)
   fewer = unmarked-set w.marks v (length w.colours.now) (omega (arith, w.room.cells, w.room.marks)) q h
 
   pub place-new : length w.stack.items < 4096
   place-new = omega (arith, w.room.cells, w.room.places, fewer)
 
-  pub room-new : (s : List ℕ) → length s ≡ length w.stack.items + 1 → Room w.colours.now (set w.marks v 1) s
-  room-new s e = record { cells = w.room.cells; marks = length-set w.marks v 1 ∙ w.room.marks; places = omega (arith, e, w.room.places, fewer) }
+  pub room-new : (s : List ℕ) → length s ≡ length w.stack.items + 1 → Room w.colours.now (set w.marks v true) s
+  room-new s e = record { cells = w.room.cells; marks = length-set w.marks v true ∙ w.room.marks; places = omega (arith, e, w.room.places, fewer) }
 
 -- ---- the loops
 join : (vs us : List ℕ) (w w' w'' : Walk) → FoldsTo Pushed w vs w' → FoldsTo Pushed w' us w'' → FoldsTo Pushed w (vs ++ us) w''

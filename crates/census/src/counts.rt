@@ -1,4 +1,5 @@
-// The six counts.
+// The six counts. Colours are the numbers that lent memory holds. That the slices fit is asked, as of the turns: a struct of them would hide
+// that all are only read.
 #![tactic(auto, using(crate::proofs::Counting::counting), unfolding(machine::specs::Census::counts))]
 
 ghost use Rattle.std.specs.Prelude.{◌≡◌, ◌≤◌, length};

@@ -1,4 +1,4 @@
-// The walk through the held cells. It keeps a byte and a word for every cell, and opens each reached cell once.
+// The walk through the held cells. It keeps a mark and a word for every cell, and opens each reached cell once.
 #![tactic(auto, using(crate::proofs::Walks::pushes, crate::proofs::Marks::walks))]
 
 ghost use Rattle.std.specs.Prelude.{◌≡◌, ◌+◌, ◌*◌, ◌≤◌, length};
@@ -11,11 +11,11 @@ ghost use Rattle.census.specs.Room.{Room};
 use arrayvec::ArrayVec;
 use machine::{Record, Row};
 
-// A mark for each cell (1 is reached), and a stack of the cells that are marked and not yet opened.
+// Arrays, for there is no heap: a mark for each cell that is reached, and a stack of the cells that are marked and not yet opened.
 #[derive(Drop)]
 struct Walk<'a> {
     colours: &'a [u8],
-    marks: [u8; 4096],
+    marks: [bool; 4096],
     stack: ArrayVec<u16, 4096>,
     ghost room: { Room colours.now marks stack.items },
 }
@@ -30,7 +30,7 @@ impl Walk<'_> {
     {
         Walk {
             colours,
-            marks: [0; 4096],
+            marks: [false; 4096],
             stack: ArrayVec::new(),
         }
     }
@@ -40,10 +40,10 @@ impl Walk<'_> {
         ensures { Pushed self.old v self.new }
     {
         let i = v as usize;
-        if self.colours.len() <= i || self.colours[i] == 0 || self.marks[i] == 1 {
+        if self.colours.len() <= i || self.colours[i] == 0 || self.marks[i] {
             return;
         }
-        self.marks[i] = 1;
+        self.marks[i] = true;
         self.stack.push(v);
     }
 

@@ -1,4 +1,4 @@
-// Stage 4, by the part.
+// Stage 4, by the part. Colours are the numbers that lent memory holds.
 #![tactic(auto, using(std::proofs::lemmas::Bool::Decides::nat_tests), unfolding(machine::specs::Choice::refuse, machine::specs::Choice::every, machine::specs::Collector::end_pass, machine::specs::Collector::scan_place, machine::specs::Collector::scan_hold, machine::specs::Collector::scan_gray, machine::specs::Collector::scan_close, machine::specs::Collector::scanning, machine::specs::Range::colour_ok, machine::specs::Range::part_ok))]
 
 ghost use Rattle.std.specs.Prelude.{◌≡◌, ℕ, List, true, ◌*◌, ◌<◌, length, Ok};
@@ -96,6 +96,7 @@ fn scan_close(rec: Record, colours: &mut [u8]) -> CollectorTurn
     })
 }
 
+// By a match on the part, odd and even parts as patterns, as the paper names it.
 pub fn scan(rec: Record, fields: &[u16], colours: &mut [u8]) -> Result<CollectorTurn, Refusal>
     requires ready { Ready rec fields.now colours.old }
     requires rec_value { part_ok rec ≡ true }

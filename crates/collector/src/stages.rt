@@ -57,6 +57,7 @@ fn marking(
     Ok(stepped(rec))
 }
 
+// By a match, as the paper names it: there are six stages, and the definition has the same cases.
 fn by_stage(
     rec: Record,
     seen: Result<bool, Refusal>,

@@ -1,4 +1,4 @@
-// Stage 5.
+// Stage 5. Colours are the numbers that lent memory holds.
 #![tactic(auto, using(std::proofs::lemmas::Bool::Decides::nat_tests), unfolding(machine::specs::Choice::refuse, machine::specs::Collector::swept, machine::specs::Collector::sweeping, machine::specs::Range::colour_ok))]
 
 ghost use Rattle.std.specs.Prelude.{◌≡◌, ◌<◌, length};

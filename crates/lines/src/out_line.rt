@@ -2,16 +2,15 @@
 // by tabs, the line's end. Not by `write!`: it promises its text where it returns `Ok`, and never that it does.
 #![tactic(auto, using(crate::proofs::Digits::std_decimal, std::proofs::Common::append_assoc), unfolding(crate::specs::Output::tabbed, crate::specs::Output::parted, crate::specs::Output::word_text, crate::specs::Output::said_text, crate::specs::Output::said_of, crate::specs::Output::out_line, machine::specs::Answer::said_by, machine::specs::Answer::said_by_census))]
 
-ghost use Rattle.std.specs.Prelude.{◌≡◌, [], ◌∷◌, ◌++◌, ◌≤◌, ◌<◌, ◌+◌, length, Ok, Err};
+ghost use Rattle.std.specs.Prelude.{◌≡◌, [], ◌∷◌, ◌++◌, ◌≤◌, ◌<◌, ◌+◌, length};
 ghost use Rattle.arrayvec.specs.ArrayVec.{array_vec_len};
-ghost use Rattle.machine.specs.Answer.{said_by, said_by_census};
 ghost use Rattle.lines.specs.Numbers.{decimal};
 ghost use Rattle.lines.specs.Output.{tabbed, said_of, said_text, out_line};
 
 use crate::Reply;
 use arrayvec::{ArrayString, ArrayVec};
 use itoa::Buffer;
-use machine::{Answer, Counts, Refusal};
+use machine::{Answer, Refusal};
 
 // The bytes of the longest output line.
 pub const LONGEST: usize = 77;
@@ -48,50 +47,30 @@ impl OutLine {
         self.text.push('\t');
     }
 
-    fn answer(&mut self, answer: Answer)
-        requires { length self.old.text.bytes + 65 ≤ 77 }
-        ensures text { self.new.text.bytes ≡ self.old.text.bytes ++ said_text (said_by (Ok answer)) }
-        ensures fits { length self.new.text.bytes ≤ length self.old.text.bytes + 65 }
-    {
-        self.text.push_str(match answer {
-            Answer::Done => "done",
-            Answer::More => "more",
-            Answer::Worked => "worked",
-            Answer::Waited => "waited",
-        });
-    }
-
-    fn counts(&mut self, counts: Counts)
-        requires { length self.old.text.bytes + 65 ≤ 77 }
-        ensures text { self.new.text.bytes ≡ self.old.text.bytes ++ said_text (said_by_census (Ok counts)) }
-        ensures fits { length self.new.text.bytes ≤ length self.old.text.bytes + 65 }
-    {
-        self.tabbed(counts.free.into());
-        self.tabbed(counts.white.into());
-        self.tabbed(counts.gray.into());
-        self.tabbed(counts.black.into());
-        self.tabbed(counts.held.into());
-        self.number(counts.floating.into());
-    }
-
-    fn refused(&mut self, refusal: Refusal)
-        requires { length self.old.text.bytes + 65 ≤ 77 }
-        ensures text { self.new.text.bytes ≡ self.old.text.bytes ++ said_text (said_by (Err refusal)) }
-        ensures fits { length self.new.text.bytes ≤ length self.old.text.bytes + 65 }
-    {
-        self.text.push_str("refused ");
-        self.number(refusal.number().into());
-    }
-
     fn reply(&mut self, reply: Result<Reply, Refusal>)
         requires { length self.old.text.bytes + 65 ≤ 77 }
         ensures text { self.new.text.bytes ≡ self.old.text.bytes ++ said_text (said_of reply) }
         ensures fits { length self.new.text.bytes ≤ length self.old.text.bytes + 65 }
     {
         match reply {
-            Ok(Reply::Answered(answer)) => self.answer(answer),
-            Ok(Reply::Counted(counts)) => self.counts(counts),
-            Err(refusal) => self.refused(refusal),
+            Ok(Reply::Answered(answer)) => self.text.push_str(match answer {
+                Answer::Done => "done",
+                Answer::More => "more",
+                Answer::Worked => "worked",
+                Answer::Waited => "waited",
+            }),
+            Ok(Reply::Counted(counts)) => {
+                self.tabbed(counts.free.into());
+                self.tabbed(counts.white.into());
+                self.tabbed(counts.gray.into());
+                self.tabbed(counts.black.into());
+                self.tabbed(counts.held.into());
+                self.number(counts.floating.into());
+            }
+            Err(refusal) => {
+                self.text.push_str("refused ");
+                self.number(refusal.number().into());
+            }
         }
     }
 }

@@ -8,7 +8,7 @@ use crate::numbers::read_number;
 use arrayvec::ArrayVec;
 use machine::Call;
 
-// Whether a field is a word.
+// Whether a field is a word. A function, as `==` takes no slice beside an array such as `b"next"`.
 fn is(field: &[u8], word: &[u8]) -> bool
     ensures { result ≡ bytes_eq field.now word.now }
 {

@@ -23,13 +23,20 @@ use Rattle.machine.specs.declared.Refusal.TheVariants.{BadSize, BadNumber}
 use Rattle.machine.specs.declared.Answer.TheVariants.{Done, More, Worked, Waited}
 
 -- an answer's number below 100 is a refusal's
-number-refused : (a : Answered) (k : Refusal) → number k < 100 → number k ≡ answer_number a → a ≡ Err k
-unfolding answer_number said_by
+number-refused : (a : Answered) (k : ℕ) → k < 100 → k ≡ answer_number a → (r : Refusal) × (k ≡ number r) × (a ≡ Err r)
+unfolding answer_number
 number-refused (Ok Done) k h e = absurd (omega arith)
 number-refused (Ok More) k h e = absurd (omega arith)
 number-refused (Ok Worked) k h e = absurd (omega arith)
 number-refused (Ok Waited) k h e = absurd (omega arith)
-number-refused (Err j) k h e = answer-said (Err j) (Err k) (ap (λ (n : ℕ). said refused (n ∷ [])) (sym e))
+number-refused (Err r) k h e = (r, e, refl)
+
+-- so it is that refusal
+same-refused : (a : Answered) (r : Refusal) → number r < 100 → number r ≡ answer_number a → a ≡ Err r
+unfolding said_by
+same-refused a r h e =
+    let k = number-refused a (number r) h e in
+    k.2 ∙ answer-said (Err k.0) (Err r) (ap (λ (n : ℕ). said refused (n ∷ [])) (sym k.1))
 
 -- each sentence from that of a site of the public calls (`Promised`), since the exported calls play the machine's turns
 lasting-linked : {n g m : ℕ} {new : Lent} → store_of new ≡ fresh n g m → Lasting new → Promised n g (store_of new) → Linked n g m new
@@ -47,7 +54,7 @@ lasting-linked {n} {g} {m} {new} b L P = record {
   in_range = λ ts now c t a after e.
       let k = P.in_range ts (store_of now) (played L c) t (turn t (store_of now)).answer (store_of after) (meets (lasting L c) t e) in
       let q = (kept (lasting L c) t e).answer in
-      (λ z. k.0 (number-refused _ BadSize (omega arith) (sym z ∙ q)), λ z. k.1 (number-refused _ BadNumber (omega arith) (sym z ∙ q)));
+      (λ z. k.0 (same-refused _ BadSize (omega arith) (sym z ∙ q)), λ z. k.1 (same-refused _ BadNumber (omega arith) (sym z ∙ q)));
 }
 
 -- THE THEOREM: a start that answers 100 (done), on any lent memory, has made such a memory

@@ -1,5 +1,5 @@
 -- THE MACHINE: what each public call makes of the lent parts. Every public contract is `Meets` of its call.
-use Rattle.std.specs.Prelude.{ℕ, ◌≡◌, [], ◌∷◌, get_or, set, ltb, Result, Ok, Err}
+use Rattle.std.specs.Prelude.{ℕ, ◌≡◌, [], ◌∷◌, get_or, set, ltb, Result}
 use Rattle.machine.specs.Choice.{refuse}
 use Rattle.machine.specs.Stage.{posted}
 use Rattle.machine.specs.Store.{Store, Outcome, outcome, refusing, fits_record, fresh_row, start}

@@ -1,14 +1,18 @@
 // The types that the machine of turns is about. The machine itself is in specs/.
 #![tactic(auto)]
 
-ghost use Rattle.std.specs.Prelude.{◌≡◌};
-ghost use Rattle.machine.specs.Answer.{number};
+ghost use Rattle.std.specs.Prelude.{◌≡◌, Some};
+ghost use Rattle.machine.specs.Answer.{number, word_of, refusal_text};
+ghost use Rattle.machine.specs.Store.{fresh_record, fresh_row};
 
 use std::error::Error;
 use std::fmt;
 
-// The collector's record. Stage, part and found are numbers, not enums, as a row's status is: this is lent memory, in which any number
-// may stand, and one that is out of range is refused.
+// An empty field or slot, in the lent memory a number.
+pub const NONE: u16 = 65535;
+
+// The collector's record. Stage, part and found are numbers, not enums, as a row's status and slots, the fields and the colours are:
+// this is lent memory, in which any number may stand, and one that is out of range is refused.
 #[derive(Clone, Copy)]
 pub struct Record {
     pub n: u16,
@@ -20,6 +24,25 @@ pub struct Record {
     pub hold: u16,
     pub found: u8,
     pub count: u32,
+}
+
+impl Record {
+    // At rest, for N, g and M as given.
+    pub fn fresh(n: u16, g: u16, m: u16) -> Record
+        ensures { result ≡ fresh_record n g m }
+    {
+        Record {
+            n,
+            g,
+            m,
+            stage: 0,
+            place: 0,
+            part: 0,
+            hold: NONE,
+            found: 0,
+            count: 0,
+        }
+    }
 }
 
 // What a store carries: field `field` of cell `cell` is to hold `new`; `old` is what it held, none until it is read.
@@ -45,7 +68,7 @@ pub enum Plan {
     BareWrite,
 }
 
-// What a creation's look has decided. While it is ahead the job says keep.
+// What a creation's look has decided. `Ahead`: the look is still to come.
 #[derive(Clone, Copy)]
 pub enum Look {
     Ahead,
@@ -77,6 +100,19 @@ pub struct Row {
     pub job: Option<Work>,
 }
 
+impl Row {
+    // Idle, with status 0 and empty slots.
+    pub fn fresh() -> Row
+        ensures { result ≡ fresh_row }
+    {
+        Row {
+            status: 0,
+            slots: [NONE; 8],
+            job: None,
+        }
+    }
+}
+
 // A writer's call, with the numbers that follow the writer's own: Page(p, s), Copy(r, s), Drop(r), Read(r, f, s),
 // Store(r, f, q), Create(s), Answer, Next.
 #[derive(Clone, Copy)]
@@ -101,6 +137,8 @@ pub enum Answer {
 }
 
 impl fmt::Display for Answer {
+    ghost output = { λ answer. Some (word_of answer) };
+
     fn fmt<W: fmt::Write>(&self, f: &mut fmt::Formatter<W>) -> fmt::Result {
         match self {
             Answer::Done => write!(f, "done"),
@@ -133,6 +171,8 @@ impl Refusal {
 }
 
 impl fmt::Display for Refusal {
+    ghost output = { λ refusal. Some (refusal_text refusal) };
+
     fn fmt<W: fmt::Write>(&self, f: &mut fmt::Formatter<W>) -> fmt::Result {
         write!(f, "refused {}", self.number())
     }

@@ -42,7 +42,7 @@ impl Player {
         self.line.try_extend_from_slice(&bytes[..kept]).unwrap();
     }
 
-    // The line is at its end.
+    // The line is at its end. That there is room is asked of three methods: how full the output is changes with each line, so no type holds it.
     #[tactic(auto, using(crate::proofs::Plays::answered, crate::proofs::Plays::unanswered))]
     fn end_line(&mut self)
         requires { HasRoom self.old }
@@ -84,6 +84,7 @@ impl Player {
         ensures bound { result ≤ length chunk.now }
         ensures text { (rest : List ℕ) → total self.new (drop result chunk.now ++ rest) ≡ total self.old (chunk.now ++ rest) }
     {
+        // A place, not a slice that shrinks: the place is the answer.
         let mut next = 0;
         while next < chunk.len() && LONGEST <= self.out.remaining_capacity() {
             next += self.take_line(&chunk[next..]);

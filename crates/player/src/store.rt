@@ -12,10 +12,10 @@ use census::census;
 use lines::Reply::{Answered, Counted};
 use lines::{Line, Reply};
 use machine::{Record, Refusal, Row};
-use turn::desk::fresh_row;
 
 // A store's parts are the first M rows, 4N words and N colour bytes. Before a start that succeeded N, g and M are 0, and out of
 // limits.
+// Arrays, since memory is fixed, of which the record tells how much a store has: their other rows, words and bytes stay for a larger one.
 #[derive(Drop)]
 pub struct OwnStore {
     rec: Record,
@@ -44,7 +44,7 @@ fn sizes(rec: Record, line: Line) -> Result<(usize, usize), Refusal>
     }
 }
 
-// The call that a line says.
+// The call that a line says, by a match: the lines are closed.
 #[tactic(auto, unfolding(crate::specs::Own::called, machine::specs::Machine::outcome_of, machine::specs::Machine::turn, lines::specs::Output::said_of, machine::specs::Answer::said_by, machine::specs::Answer::said_by_census))]
 fn call(
     line: Line,
@@ -91,18 +91,8 @@ impl OwnStore {
         ensures { (game result).started ≡ false }
     {
         OwnStore {
-            rec: Record {
-                n: 0,
-                g: 0,
-                m: 0,
-                stage: 0,
-                place: 0,
-                part: 0,
-                hold: NONE,
-                found: 0,
-                count: 0,
-            },
-            rows: [fresh_row(); 8],
+            rec: Record::fresh(0, 0, 0),
+            rows: [Row::fresh(); 8],
             fields: [NONE; 16384],
             colours: [0; 4096],
         }

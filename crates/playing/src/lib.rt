@@ -68,6 +68,7 @@ fn flush<W: Write>(writer: &mut W, player: &mut Player) -> Result<(), Broken>
 }
 
 // Plays all bytes of a chunk, unless a write fails: whether lines may follow.
+// Between reads the player's output is empty: a type for that state would be a second `Player`.
 fn drain<W: Write>(writer: &mut W, chunk: &[u8], player: &mut Player) -> Result<bool, Broken>
     requires { output player.old ≡ [] }
     ensures empty { OnOk result (output player.new ≡ []) }

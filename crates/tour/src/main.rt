@@ -6,8 +6,6 @@ use machine::{Answer, Call, Record, Refusal, Row};
 use moves::cycle_bound;
 use std::io;
 
-const NONE: u16 = 65535;
-
 // The memory of two cells, one page and one writer.
 #[derive(Drop)]
 struct Site {
@@ -28,22 +26,8 @@ impl Site {
     // Memory as it comes: start fills it.
     fn blank() -> Site {
         Site {
-            rec: Record {
-                n: 0,
-                g: 0,
-                m: 0,
-                stage: 0,
-                place: 0,
-                part: 0,
-                hold: NONE,
-                found: 0,
-                count: 0,
-            },
-            desk: [Row {
-                status: 0,
-                slots: [NONE; 8],
-                job: None,
-            }],
+            rec: Record::fresh(0, 0, 0),
+            desk: [Row::fresh()],
             fields: [0; 8],
             colours: [9; 2],
         }

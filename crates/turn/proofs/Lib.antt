@@ -1,4 +1,5 @@
 pub mod Beginning
 pub mod Laws
+pub mod OwnRows
 pub mod Seeing
 pub mod Sizes

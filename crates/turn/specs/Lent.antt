@@ -58,3 +58,7 @@ beginning n g m rows fields colours =
     (begun (Ok (fresh_record n g m))
     (replicate (length fields) none)
     (replicate g 1 ++ replicate (length colours - g) 0))
+
+-- ---- the desk of who keeps eight rows: the first M of them
+unfoldable pub own_rows : ℕ → ℕ
+own_rows m = pick (nat_lt m 8) m 8

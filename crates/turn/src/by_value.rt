@@ -1,13 +1,12 @@
 // The calls by value: sizes first (1), then the writer (3), then the turn.
 #![tactic(auto, using(std::proofs::lemmas::Bool::Decides::nat_tests, crate::proofs::Sizes::sizes), unfolding(machine::specs::Choice::refuse, crate::specs::Lent::writing, crate::specs::Lent::collecting, crate::specs::Lent::beginning))]
 
-ghost use Rattle.std.specs.Prelude.{◌≡◌, ◌≤◌};
-ghost use Rattle.machine.specs.Store.{fresh_record};
+ghost use Rattle.std.specs.Prelude.{◌≡◌};
 ghost use Rattle.machine.specs.Turns.{by_row, by_record, written, collected};
 ghost use Rattle.turn.specs.Lent.{writing, collecting, begun, beginning};
 
 use cells::NONE;
-use cells::limits::sizes_ok;
+use cells::limits::{record_fits, sizes_ok};
 use collector::collector_turn;
 use machine::{Call, CollectorTurn, Record, Refusal, Row, WriterTurn};
 use writer::turn_of;
@@ -23,14 +22,7 @@ pub fn write_core(
 ) -> Result<WriterTurn, Refusal>
     ensures { written (by_row row result) fields.new colours.new ≡ writing rec rows w row fields.old colours.old call }
 {
-    if !sizes_ok(
-        rec.n.into(),
-        rec.g.into(),
-        rec.m.into(),
-        rows,
-        fields.len(),
-        colours.len(),
-    ) {
+    if !record_fits(rec, rows, fields.len(), colours.len()) {
         return Err(Refusal::BadSize);
     }
     if u32::from(rec.m) <= w {
@@ -48,34 +40,10 @@ pub fn collect_core(
 ) -> Result<CollectorTurn, Refusal>
     ensures { collected (by_record rec result) colours.new ≡ collecting rec rows seen fields.now colours.old }
 {
-    if !sizes_ok(
-        rec.n.into(),
-        rec.g.into(),
-        rec.m.into(),
-        rows,
-        fields.len(),
-        colours.len(),
-    ) {
+    if !record_fits(rec, rows, fields.len(), colours.len()) {
         return Err(Refusal::BadSize);
     }
     collector_turn(rec, seen, fields, colours)
-}
-
-fn fresh_record(n: u32, g: u32, m: u32) -> Record
-    requires { (n ≤ 4096) × (g ≤ 16) × (m ≤ 8) }
-    ensures { result ≡ fresh_record n g m }
-{
-    Record {
-        n: n as u16,
-        g: g as u16,
-        m: m as u16,
-        stage: 0,
-        place: 0,
-        part: 0,
-        hold: NONE,
-        found: 0,
-        count: 0,
-    }
 }
 
 // The fields and colours are filled; the fresh record. The rows are the caller's to fill.
@@ -96,5 +64,5 @@ pub fn start_core(
     // Cells free, but for the pages, which are white.
     colours.fill(0);
     colours[..g as usize].fill(1);
-    Ok(fresh_record(n, g, m))
+    Ok(Record::fresh(n as u16, g as u16, m as u16))
 }

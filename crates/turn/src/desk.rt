@@ -8,7 +8,6 @@ ghost use Rattle.machine.specs.Range.{status_ok};
 ghost use Rattle.machine.specs.Store.{fresh_row};
 ghost use Rattle.turn.specs.Lent.{waits, rows_read, seen};
 
-use cells::NONE;
 use cells::range::status_ok;
 use cells::stage::posted;
 use machine::{Record, Refusal, Row};
@@ -16,11 +15,7 @@ use machine::{Record, Refusal, Row};
 pub fn fresh_row() -> Row
     ensures { result ≡ fresh_row }
 {
-    Row {
-        status: 0,
-        slots: [NONE; 8],
-        job: None,
-    }
+    Row::fresh()
 }
 
 // Row i, or a fresh one where the desk has no row i.
@@ -40,7 +35,7 @@ pub fn put_row(desk: &mut [Row], i: usize, row: Row)
     }
 }
 
-// Whether this turn of the collector is a waiting test.
+// Whether this turn of the collector is a waiting test: by the stage, a number of lent memory.
 fn waits(rec: Record) -> bool
     ensures { result ≡ waits rec }
 {

@@ -1,5 +1,6 @@
 // The public calls: start, write, collect. Each takes any numbers and any lent memory. The record, the desk, the fields and the colours
-// are lent one by one, since a site keeps each where it likes; the calls by value in `by_value` are for who lends a desk of another form.
+// are lent one by one, since a site keeps each where it likes; the calls in `kept` are for who keeps eight rows in an array, and the calls by
+// value in `by_value` are for who lends a desk of another form.
 #![tactic(auto)]
 
 ghost use Rattle.std.specs.Prelude.{◌≡◌};
@@ -8,6 +9,7 @@ ghost use Rattle.machine.specs.Store.{parts};
 
 pub mod by_value;
 pub mod desk;
+pub mod kept;
 
 use crate::by_value::{collect_core, start_core, write_core};
 use crate::desk::{fresh_row, put_row, row_or, survey_desk};

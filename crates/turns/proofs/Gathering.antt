@@ -7,13 +7,13 @@ use Rattle.machine.specs.declared.Row.{Row}
 use Rattle.turns.specs.Plain.{desk_of}
 use Rattle.turns.proofs.Desk.{desk-length}
 
-module _ (words : List ℕ) (own : List Row) (few : length words / 16 ≤ 8) (eight : length own ≡ 8) where
+module _ (words : List ℕ) (own : List Row) (eight : length own ≡ 8) where
   -- own's row i is the desk's
   abbrev Same : ℕ → Type 0
   Same i = get_or own i fresh_row ≡ get_or (desk_of words) i fresh_row
 
-  pub gathered : Same 0 → Same 1 → Same 2 → Same 3 → Same 4 → Same 5 → Same 6 → Same 7 → take (length words / 16) own ≡ desk_of words
-  gathered a b c d e f g h =
+  pub gathered : Same 0 → Same 1 → Same 2 → Same 3 → Same 4 → Same 5 → Same 6 → Same 7 → length words / 16 ≤ 8 → take (length words / 16) own ≡ desk_of words
+  gathered a b c d e f g h few =
       let long = length-take-le (length words / 16) own (omega arith) in
       ext_get_or fresh_row _ _ (long ∙ sym (desk-length words)) (λ i k. get_or-take (length words / 16) own i fresh_row (omega arith) ∙ same i (omega arith))
     where

@@ -1,5 +1,5 @@
 // The calls over plain numbers: the record and the rows that a turn reads are taken out, the turn is made by value, and what it changed is
-// written back.
+// written back. They stand beside the calls of `turn`, whose desk is rows: C's desk is words, and a turn makes rows of those alone that it reads.
 #![tactic(auto, using(std::proofs::lemmas::Bool::Decides::nat_tests, crate::proofs::Ending::shapes), unfolding(machine::specs::Choice::every, crate::specs::Calls::shaped))]
 
 ghost use Rattle.std.specs.Prelude.{◌≡◌, ◌/◌, ◌%◌, ◌≤◌, length, take, replicate};
@@ -10,7 +10,7 @@ ghost use Rattle.turns.specs.Calls.{shaped, lent, result_of, start_by, write_by,
 
 use crate::plain::{put_record, put_rest, put_row, record_of, row_at, short_of};
 use cells::stage::posted;
-use census::census;
+use census::by_value::census_core;
 use machine::{Answer, Call, Record, Refusal, Row};
 use turn::by_value::{collect_core, start_core, write_core};
 use turn::desk::{fresh_row, rows_read};
@@ -120,11 +120,10 @@ pub fn collect_words(
     Ok(turn.answer)
 }
 
-// The rows of a desk of at most eight, and fresh rows after them.
+// The rows of a desk of at most eight, and fresh rows after them; of more, the first eight.
 #[tactic(auto, using(crate::proofs::Gathering::gathered))]
 fn gather(desk: &[u16]) -> [Row; 8]
-    requires { length desk.now / 16 ≤ 8 }
-    ensures { take (length desk.now / 16) result ≡ desk_of desk.now }
+    ensures { length desk.now / 16 ≤ 8 → take (length desk.now / 16) result ≡ desk_of desk.now }
 {
     std::array::from_fn(|i| row_at(desk, i))
 }
@@ -143,14 +142,9 @@ pub fn census_words(
     if !shaped(numbers, desk) || counts.len() != 6 {
         return Err(Refusal::BadSize);
     }
-    // No store has more than eight rows.
-    let rows = desk.len() / 16;
-    if rows > 8 {
-        return Err(Refusal::BadSize);
-    }
     let rec = record_of(numbers);
     let own = gather(desk);
-    let c = census(&rec, &own[..rows], fields, colours)?;
+    let c = census_core(rec, desk.len() / 16, own, fields, colours)?;
     counts.copy_from_slice(&[
         c.free.into(),
         c.white.into(),

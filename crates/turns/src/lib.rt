@@ -1,5 +1,6 @@
 // The calls of the machine for C and Rust, over plain numbers: an exported function takes no enum, so the record is lent as nine numbers, a
 // row of the desk as 16 words, and an answer is a number. include/turns.h names them. Every call takes any numbers and any lent memory.
+// `turns_c` exports each under its name: C takes functions from a static library alone.
 #![tactic(auto)]
 
 ghost use Rattle.std.specs.Prelude.{◌≡◌};

@@ -1,5 +1,5 @@
-// Plain numbers and the machine's types, each made of the other. A number that does not fit its type becomes one that is out of range. They are
-// functions, since the types are another crate's and take no `From` or `TryFrom` here.
+// Plain numbers and the machine's types, each made of the other. A number that does not fit its type becomes one that is out of range. Narrow
+// numbers go by `try_from`; the types' conversions are functions, since the types are another crate's and take no `From` here.
 #![tactic(auto, using(std::proofs::lemmas::Bool::Decides::nat_tests), unfolding(crate::specs::Plain::byte_of, crate::specs::Plain::word_of, crate::specs::Plain::hold_of, crate::specs::Plain::record_of, crate::specs::Plain::plan_of, crate::specs::Plain::look_of, crate::specs::Plain::storing_of, crate::specs::Plain::creating_of, crate::specs::Plain::job_of, crate::specs::Plain::row_of, crate::specs::Plain::plan_number, crate::specs::Plain::look_number, crate::specs::Plain::work_task, crate::specs::Plain::task_of, crate::specs::Plain::words_of, crate::specs::Plain::answer_number, crate::specs::Plain::with_row))]
 
 ghost use Rattle.std.specs.Prelude.{◌≡◌, ◌+◌, ◌<◌, ◌≤◌, ◌++◌, length, take, drop, slice_index_or};
@@ -13,13 +13,13 @@ use turn::desk::fresh_row;
 
 // A job's words, in their order: C has no enum for a kind and its step.
 #[derive(Clone, Copy)]
-pub struct Task {
-    pub kind: u16,
-    pub step: u16,
-    pub cell: u16,
-    pub at: u16,
-    pub fresh: u16,
-    pub old: u16,
+struct Task {
+    kind: u16,
+    step: u16,
+    cell: u16,
+    at: u16,
+    fresh: u16,
+    old: u16,
 }
 
 // A number as a byte.
@@ -250,7 +250,7 @@ fn task_of(job: Option<Work>) -> Task
 }
 
 // A row's 16 words.
-pub fn words_of(row: Row) -> [u16; 16]
+fn words_of(row: Row) -> [u16; 16]
     ensures { result ≡ words_of row }
 {
     let s = row.slots;
@@ -295,7 +295,7 @@ pub fn put_row(desk: &mut [u16], i: usize, row: Row)
     }
 }
 
-// An answer's number: a refusal's own, below 100, or one from 100 on.
+// An answer's number, as C has it: a refusal's own, below 100, or one from 100 on.
 pub fn answer_number(answer: Result<Answer, Refusal>) -> u32
     ensures { result ≡ answer_number answer }
 {

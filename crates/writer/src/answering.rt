@@ -1,7 +1,7 @@
 // Answer: one turn, or ten.
 #![tactic(auto, using(std::proofs::lemmas::Bool::Decides::nat_tests), unfolding(machine::specs::Choice::refuse, machine::specs::Parts::with_status, machine::specs::Parts::with_job, machine::specs::Answering::answer_to, machine::specs::Answering::answer, machine::specs::Answering::next_answering))]
 
-ghost use Rattle.std.specs.Prelude.{◌≡◌};
+ghost use Rattle.std.specs.Prelude.{◌≡◌, ℕ, List};
 ghost use Rattle.machine.specs.Answering.{answer_to, answer, next_answering};
 ghost use Rattle.machine.specs.Turns.{by_row, written};
 
@@ -32,25 +32,20 @@ pub fn answer(rec: Record, row: Row) -> Result<WriterTurn, Refusal>
     answer_to(posted(rec.stage), row)
 }
 
-pub fn next_answering(
-    row: Row,
-    fields: &mut [u16],
-    colours: &mut [u8],
-    k: u8,
-) -> Result<WriterTurn, Refusal>
-    ensures { written (by_row row result) fields.new colours.new ≡ next_answering row fields.old colours.old k }
+pub fn next_answering(row: Row, colours: &mut [u8], slot: u8) -> Result<WriterTurn, Refusal>
+    ensures { (fields : List ℕ) → written (by_row row result) fields colours.new ≡ next_answering row fields colours.old slot }
 {
-    if 8 <= k {
+    if 8 <= slot {
         return Ok(done(Row {
             status: 0,
             job: None,
             ..row
         }));
     }
-    let v = row.slots[k as usize];
-    if !gray_ok(colours, v) {
+    let value = row.slots[slot as usize];
+    if !gray_ok(colours, value) {
         return Err(Refusal::BadNumber);
     }
-    gray(colours, v);
-    Ok(more(row, Work::Answering(k + 1)))
+    gray(colours, value);
+    Ok(more(row, Work::Answering(slot + 1)))
 }

@@ -1,7 +1,7 @@
-// Create into slot s: take, look, finish.
+// Create into slot s: take, look, finish. Colours are the numbers that lent memory holds.
 #![tactic(auto, using(std::proofs::lemmas::Bool::Decides::nat_tests, crate::proofs::Facts::free_in), unfolding(machine::specs::Choice::every, machine::specs::Range::colour_ok, crate::specs::Used::used, machine::specs::Creating::decided, machine::specs::Creating::look, machine::specs::Creating::take, machine::specs::Creating::take_cell, machine::specs::Creating::create, machine::specs::Creating::next_creating, machine::specs::Choice::refuse))]
 
-ghost use Rattle.std.specs.Prelude.{◌≡◌, ◌+◌, ◌*◌, ◌<◌, ◌≤◌, length, Ok};
+ghost use Rattle.std.specs.Prelude.{◌≡◌, ℕ, List, ◌+◌, ◌*◌, ◌<◌, ◌≤◌, length, Ok};
 ghost use Rattle.cells.specs.Sized.{Sized};
 ghost use Rattle.machine.specs.Choice.{all};
 ghost use Rattle.machine.specs.Creating.{lowest_free, emptied, take_cell, create, decided, look, finished, next_creating};
@@ -15,10 +15,10 @@ use cells::stage::hand;
 use machine::{Look, Made, Record, Refusal, Row, Work, WriterTurn};
 
 // The colour of a cell in use.
-fn used(b: u8) -> bool
-    ensures { result ≡ used b }
+fn used(colour: u8) -> bool
+    ensures { result ≡ used colour }
 {
-    matches!(b, 1..=3)
+    matches!(colour, 1..=3)
 }
 
 // All these cells are in use.
@@ -42,8 +42,8 @@ fn lowest_free(colours: &[u8]) -> Result<u16, Refusal>
     requires { length colours.now ≤ 4096 }
     ensures { result ≡ lowest_free 0 colours.now }
 {
-    for i in past_used(colours)..colours.len() {
-        match colours[i] {
+    for (i, b) in colours.iter().enumerate().skip(past_used(colours)) {
+        match *b {
             0 => return Ok(i as u16),
             1..=3 => {}
             _ => return Err(Refusal::BadNumber),
@@ -52,28 +52,28 @@ fn lowest_free(colours: &[u8]) -> Result<u16, Refusal>
     Err(Refusal::Full)
 }
 
-fn empty_cell(fields: &mut [u16], n: u16)
-    requires { n * 4 + 3 < length fields.old }
-    ensures { fields.new ≡ emptied fields.old n }
+fn empty_cell(fields: &mut [u16], cell: u16)
+    requires { cell * 4 + 3 < length fields.old }
+    ensures { fields.new ≡ emptied fields.old cell }
 {
-    let i = n as usize * 4;
-    fields[i..i + 4].fill(NONE);
+    let start = cell as usize * 4;
+    fields[start..start + 4].fill(NONE);
 }
 
-fn take_cell(row: Row, fields: &mut [u16], colours: &mut [u8], s: u32, n: u16) -> WriterTurn
-    requires fields_bound { n * 4 + 3 < length fields.old }
-    requires colours_bound { n < length colours.old }
+fn take_cell(row: Row, fields: &mut [u16], colours: &mut [u8], s: u32, cell: u16) -> WriterTurn
+    requires fields_bound { cell * 4 + 3 < length fields.old }
+    requires colours_bound { cell < length colours.old }
     requires slot_bound { s < 8 }
-    ensures { written (by_row row (Ok result)) fields.new colours.new ≡ take_cell row fields.old colours.old s n }
+    ensures { written (by_row row (Ok result)) fields.new colours.new ≡ take_cell row fields.old colours.old s cell }
 {
-    empty_cell(fields, n);
-    colours[n as usize] = 3;
-    let m = Made {
+    empty_cell(fields, cell);
+    colours[cell as usize] = 3;
+    let made = Made {
         slot: s as u8,
-        cell: n,
+        cell,
         look: Look::Ahead,
     };
-    more(row, Work::Creating(m))
+    more(row, Work::Creating(made))
 }
 
 pub fn create(
@@ -90,51 +90,46 @@ pub fn create(
         return Err(Refusal::NoSuch);
     }
     admitted(rec, row)?;
-    let n = lowest_free(colours)?;
-    Ok(take_cell(row, fields, colours, s, n))
+    let cell = lowest_free(colours)?;
+    Ok(take_cell(row, fields, colours, s, cell))
 }
 
-fn decided(rec: Record, row: Row, n: u16) -> Look
-    ensures { result ≡ decided rec row n }
+fn decided(rec: Record, row: Row, cell: u16) -> Look
+    ensures { result ≡ decided rec row cell }
 {
-    if row.status != 0 || n < hand(rec) {
+    if row.status != 0 || cell < hand(rec) {
         Look::White
     } else {
         Look::Keep
     }
 }
 
-fn look_turn(rec: Record, row: Row, m: Made) -> WriterTurn
-    ensures { by_row row (Ok result) ≡ look rec row m }
+fn look_turn(rec: Record, row: Row, made: Made) -> WriterTurn
+    ensures { by_row row (Ok result) ≡ look rec row made }
 {
-    let look = decided(rec, row, m.cell);
-    more(row, Work::Creating(Made { look, ..m }))
+    let look = decided(rec, row, made.cell);
+    more(row, Work::Creating(Made { look, ..made }))
 }
 
-fn finish(row: Row, m: Made) -> WriterTurn
-    requires { m.slot < 8 }
-    ensures { by_row row (Ok result) ≡ finished row m }
+fn finish(row: Row, made: Made) -> WriterTurn
+    requires { made.slot < 8 }
+    ensures { by_row row (Ok result) ≡ finished row made }
 {
-    done(filled(row, m.slot, m.cell))
+    done(filled(row, made.slot, made.cell))
 }
 
-pub fn next_creating(
-    rec: Record,
-    row: Row,
-    fields: &mut [u16],
-    colours: &mut [u8],
-    m: Made,
-) -> WriterTurn
-    requires cell_in_bounds { m.cell < length colours.old }
-    requires slot_bound { m.slot < 8 }
-    ensures { written (by_row row (Ok result)) fields.new colours.new ≡ next_creating rec row fields.old colours.old m m.look }
+// By a match on the look, as the definition has it.
+pub fn next_creating(rec: Record, row: Row, colours: &mut [u8], made: Made) -> WriterTurn
+    requires cell_in_bounds { made.cell < length colours.old }
+    requires slot_bound { made.slot < 8 }
+    ensures { (fields : List ℕ) → written (by_row row (Ok result)) fields colours.new ≡ next_creating rec row fields colours.old made made.look }
 {
-    match m.look {
-        Look::Ahead => look_turn(rec, row, m),
-        Look::Keep => finish(row, m),
+    match made.look {
+        Look::Ahead => look_turn(rec, row, made),
+        Look::Keep => finish(row, made),
         Look::White => {
-            colours[m.cell as usize] = 1;
-            finish(row, m)
+            colours[made.cell as usize] = 1;
+            finish(row, made)
         }
     }
 }

@@ -1,9 +1,10 @@
 // Store slot q into field f of the cell in slot r: five, four or two turns, by its plan.
 #![tactic(auto, using(std::proofs::lemmas::Bool::Decides::nat_tests), unfolding(machine::specs::Choice::refuse, machine::specs::Parts::with_job, machine::specs::Storing::plan_of, machine::specs::Storing::store_cell, machine::specs::Storing::store_slots, machine::specs::Storing::store, machine::specs::Storing::store_read, machine::specs::Storing::store_gray, machine::specs::Storing::store_write, machine::specs::Storing::next_storing))]
 
-ghost use Rattle.std.specs.Prelude.{◌≡◌, ◌+◌, ◌*◌, ◌<◌, length, Ok};
-ghost use Rattle.machine.specs.Storing.{plan_of, store_cell, store_slots, store, store_read, store_gray, store_write, next_storing};
-ghost use Rattle.machine.specs.Turns.{by_row, written};
+ghost use Rattle.std.specs.Prelude.{◌≡◌, ℕ, List, ◌+◌, ◌*◌, ◌<◌, length, None, Ok};
+ghost use Rattle.machine.specs.Storing.{plan_of, store_cell, store_slots, store, store_read, store_gray, next_storing};
+ghost use Rattle.machine.specs.Parts.{with_job, with_field};
+ghost use Rattle.machine.specs.Turns.{by_row, done, written};
 
 use crate::rows::{admitted, done, more};
 use cells::NONE;
@@ -24,29 +25,29 @@ fn plan_of(rec: Record, row: Row) -> Plan
     Plan::BareWrite
 }
 
-fn store_cell(row: Row, c: u16, f: u32, v: u16, p: Plan) -> WriterTurn
+fn store_cell(row: Row, cell: u16, f: u32, value: u16, plan: Plan) -> WriterTurn
     requires { f < 4 }
-    ensures { by_row row (Ok result) ≡ store_cell row c f v p }
+    ensures { by_row row (Ok result) ≡ store_cell row cell f value plan }
 {
-    let s = Stored {
-        cell: c,
+    let stored = Stored {
+        cell,
         field: f as u8,
-        new: v,
+        new: value,
         old: NONE,
     };
-    more(row, Work::Storing(s, p))
+    more(row, Work::Storing(stored, plan))
 }
 
 fn store_slots(rec: Record, row: Row, r: u32, f: u32, q: u32) -> Result<WriterTurn, Refusal>
     requires { (r < 8) × (q < 8) × (f < 4) }
     ensures { by_row row result ≡ store_slots rec row r f q }
 {
-    let c = row.slots[r as usize];
-    if c == NONE {
+    let cell = row.slots[r as usize];
+    if cell == NONE {
         return Err(Refusal::EmptySlot);
     }
-    let v = row.slots[q as usize];
-    Ok(store_cell(row, c, f, v, plan_of(rec, row)))
+    let value = row.slots[q as usize];
+    Ok(store_cell(row, cell, f, value, plan_of(rec, row)))
 }
 
 pub fn store(rec: Record, row: Row, r: u32, f: u32, q: u32) -> Result<WriterTurn, Refusal>
@@ -62,65 +63,74 @@ pub fn store(rec: Record, row: Row, r: u32, f: u32, q: u32) -> Result<WriterTurn
 fn store_read(
     n: u16,
     row: Row,
-    fields: &mut [u16],
-    colours: &mut [u8],
-    s: Stored,
-    p: Plan,
+    fields: &[u16],
+    stored: Stored,
+    plan: Plan,
 ) -> Result<WriterTurn, Refusal>
-    requires { s.cell * 4 + s.field < length fields.old }
-    ensures { written (by_row row result) fields.new colours.new ≡ store_read n row fields.old colours.old s p }
+    requires { stored.cell * 4 + stored.field < length fields.now }
+    ensures { (colours : List ℕ) → written (by_row row result) fields.now colours ≡ store_read n row fields.now colours stored plan }
 {
-    let v = fields[s.cell as usize * 4 + s.field as usize];
-    if !value_ok(n, v) {
+    let value = fields[stored.cell as usize * 4 + stored.field as usize];
+    if !value_ok(n, value) {
         return Err(Refusal::BadNumber);
     }
-    Ok(more(row, Work::Storing(Stored { old: v, ..s }, p)))
+    Ok(more(
+        row,
+        Work::Storing(
+            Stored {
+                old: value,
+                ..stored
+            },
+            plan,
+        ),
+    ))
 }
 
 fn store_gray(
     row: Row,
-    fields: &mut [u16],
     colours: &mut [u8],
-    v: u16,
-    s: Stored,
-    p: Plan,
+    value: u16,
+    stored: Stored,
+    plan: Plan,
 ) -> Result<WriterTurn, Refusal>
-    ensures { written (by_row row result) fields.new colours.new ≡ store_gray row fields.old colours.old v s p }
+    ensures { (fields : List ℕ) → written (by_row row result) fields colours.new ≡ store_gray row fields colours.old value stored plan }
 {
-    if !gray_ok(colours, v) {
+    if !gray_ok(colours, value) {
         return Err(Refusal::BadNumber);
     }
-    gray(colours, v);
-    Ok(more(row, Work::Storing(s, p)))
+    gray(colours, value);
+    Ok(more(row, Work::Storing(stored, plan)))
 }
 
-fn store_write(row: Row, fields: &mut [u16], colours: &mut [u8], s: Stored) -> WriterTurn
-    requires { s.cell * 4 + s.field < length fields.old }
-    ensures { written (by_row row (Ok result)) fields.new colours.new ≡ store_write row fields.old colours.old s }
+fn store_write(row: Row, fields: &mut [u16], stored: Stored) -> WriterTurn
+    requires { stored.cell * 4 + stored.field < length fields.old }
+    ensures turn { by_row row (Ok result) ≡ done (with_job row None) }
+    ensures field { fields.new ≡ with_field fields.old stored.cell stored.field stored.new }
 {
-    fields[s.cell as usize * 4 + s.field as usize] = s.new;
+    fields[stored.cell as usize * 4 + stored.field as usize] = stored.new;
     done(Row { job: None, ..row })
 }
 
+// The plan's next turn, by a match: the plans are closed, and the definition has the same cases.
 pub fn next_storing(
     n: u16,
     row: Row,
     fields: &mut [u16],
     colours: &mut [u8],
-    s: Stored,
-    p: Plan,
+    stored: Stored,
+    plan: Plan,
 ) -> Result<WriterTurn, Refusal>
-    requires { s.cell * 4 + s.field < length fields.old }
-    ensures { written (by_row row result) fields.new colours.new ≡ next_storing n row fields.old colours.old s p }
+    requires { stored.cell * 4 + stored.field < length fields.old }
+    ensures { written (by_row row result) fields.new colours.new ≡ next_storing n row fields.old colours.old stored plan }
 {
-    match p {
-        Plan::FullRead => store_read(n, row, fields, colours, s, Plan::FullOld),
-        Plan::FullOld => store_gray(row, fields, colours, s.old, s, Plan::FullNew),
-        Plan::FullNew => store_gray(row, fields, colours, s.new, s, Plan::FullWrite),
-        Plan::TracedRead => store_read(n, row, fields, colours, s, Plan::TracedOld),
-        Plan::TracedOld => store_gray(row, fields, colours, s.old, s, Plan::TracedWrite),
+    match plan {
+        Plan::FullRead => store_read(n, row, fields, stored, Plan::FullOld),
+        Plan::FullOld => store_gray(row, colours, stored.old, stored, Plan::FullNew),
+        Plan::FullNew => store_gray(row, colours, stored.new, stored, Plan::FullWrite),
+        Plan::TracedRead => store_read(n, row, fields, stored, Plan::TracedOld),
+        Plan::TracedOld => store_gray(row, colours, stored.old, stored, Plan::TracedWrite),
         Plan::FullWrite | Plan::TracedWrite | Plan::BareWrite => {
-            Ok(store_write(row, fields, colours, s))
+            Ok(store_write(row, fields, stored))
         }
     }
 }

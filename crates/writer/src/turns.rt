@@ -13,6 +13,7 @@ use crate::storing::{next_storing, store};
 use cells::range::sound;
 use machine::{Call, Record, Refusal, Row, Work, WriterTurn};
 
+// By the job's work, of which there are three kinds.
 pub fn next(
     rec: Record,
     row: Row,
@@ -29,13 +30,13 @@ pub fn next(
         return Err(Refusal::NoTurn);
     };
     match work {
-        Work::Answering(k) => next_answering(row, fields, colours, k),
-        Work::Storing(s, p) => next_storing(rec.n, row, fields, colours, s, p),
-        Work::Creating(m) => Ok(next_creating(rec, row, fields, colours, m)),
+        Work::Answering(slot) => next_answering(row, colours, slot),
+        Work::Storing(stored, plan) => next_storing(rec.n, row, fields, colours, stored, plan),
+        Work::Creating(made) => Ok(next_creating(rec, row, colours, made)),
     }
 }
 
-// The turn that a writer's call is.
+// The turn that a writer's call is, by a match: the calls are closed, and the definition has the same cases.
 pub fn turn_of(
     rec: Record,
     row: Row,

@@ -29,4 +29,4 @@ filled l ys a k v h e p =
 
 pub returns : goal.returns
 unfolding emptied
-returns c = filled c.args.fields.now c.fill.new.self (c.args.n * 4) _ none (omega arith) (omega arith) (c.fill.ensures.after (λ y h. search rules))
+returns c = filled c.args.fields.now c.fill.new.self (c.args.cell * 4) _ none (omega arith) (omega arith) (c.fill.ensures.after (λ y h. search rules))
