@@ -9,6 +9,7 @@ ghost use Rattle.turn.specs.Lent.{own_rows};
 
 pub mod by_value;
 mod counts;
+pub mod desk;
 mod range;
 mod reach;
 
