@@ -12,6 +12,7 @@ use crate::reach::held_cells;
 use machine::{Counts, Record, Row};
 
 // How many cells have each colour.
+#[derive(Clone, Copy)]
 pub struct Shades {
     pub free: u16,
     pub white: u16,

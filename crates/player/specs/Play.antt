@@ -39,6 +39,10 @@ played bs = play_text unstarted bs
 abbrev pub output : Player → List ℕ
 output p = p.out.items
 
+-- the bytes of a line that has no end yet
+abbrev pub unended : Player → List ℕ
+unended p = p.line.items
+
 -- there is room for an output line
 abbrev pub HasRoom : Player → Type 0
 HasRoom p = length (output p) + 77 ≤ 65536

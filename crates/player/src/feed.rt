@@ -1,13 +1,13 @@
 // The player between reads: bytes come in any cut, output lines go into its buffer.
-ghost use Rattle.std.specs.Prelude.{◌≡◌, ◌≢◌, ◌≤◌, ◌<◌, ℕ, List, [], ◌∷◌, ◌++◌, drop, length, All};
-ghost use Rattle.player.specs.Play.{output, HasRoom, goes_on, total};
+ghost use Rattle.std.specs.Prelude.{◌≡◌, ◌≢◌, ◌+◌, ◌≤◌, ◌<◌, ℕ, List, [], ◌∷◌, ◌++◌, drop, length, All};
+ghost use Rattle.player.specs.Play.{output, unended, HasRoom, goes_on, total};
 ghost use Rattle.player.specs.Cut.{Begins, Emptied};
 
 use crate::store::OwnStore;
 use arrayvec::ArrayVec;
 use lines::{LONGEST, parse_line, put_reply};
 
-#[derive(Drop)]
+#[derive(Clone, Drop)]
 pub struct Player {
     store: OwnStore,
     // the bytes of the line so far, or 65 of a longer one, which is unreadable
@@ -46,7 +46,8 @@ impl Player {
     #[tactic(auto, using(crate::proofs::Plays::answered, crate::proofs::Plays::unanswered))]
     fn end_line(&mut self)
         requires { HasRoom self.old }
-        ensures line { self.new.line.items ≡ [] }
+        ensures line { unended self.new ≡ [] }
+        ensures upper_bound { length (output self.new) ≤ length (output self.old) + 77 }
         ensures text { (rest : List ℕ) → total self.new rest ≡ total self.old (10 ∷ rest) }
     {
         let line = parse_line(&self.line);
@@ -96,7 +97,9 @@ impl Player {
     #[tactic(auto, using(crate::proofs::Plays::no_line))]
     pub fn finish(&mut self)
         requires { HasRoom self.old }
-        ensures { output self.new ≡ total self.old [] }
+        ensures line { unended self.new ≡ [] }
+        ensures upper_bound { length (output self.new) ≤ length (output self.old) + 77 }
+        ensures text { output self.new ≡ total self.old [] }
     {
         if !self.line.is_empty() {
             self.end_line();

@@ -16,7 +16,7 @@ use machine::{Record, Refusal, Row};
 // A store's parts are the first M rows, 4N words and N colour bytes. Before a start that succeeded N, g and M are 0, and out of
 // limits.
 // Arrays, since memory is fixed, of which the record tells how much a store has: their other rows, words and bytes stay for a larger one.
-#[derive(Drop)]
+#[derive(Clone, Copy)]
 pub struct OwnStore {
     rec: Record,
     rows: [Row; 8],

@@ -40,7 +40,7 @@ nothing_left (Some xs) old f e = subst (Appends old old) (sym (e xs)) (Appends-n
 
 -- a chunk was read and played: the player goes on below its last output line
 pub chunk_played : {E : Type 0} (r : Result Bool E) (p : Player) (l m a b : Option (List ℕ)) (f : List ℕ → List ℕ) (bs : List ℕ)
-    → Consumes l m bs → OnOk r (Written a b (λ rest. f (bs ++ rest)) (total p)) → IfOk r (λ more. more ≡ goes_on p) → OnOk r (output p ≡ [])
+    → Consumes l m bs → OnOk r (Written a b (λ rest. f (bs ++ rest)) (total p)) → IfOk r (λ more. more ≡ goes_on p) → output p ≡ []
     → IfOk r (λ more. MatchBool more (Continues l m a b f (total p)) (Finishes l a b f))
 chunk_played (Err e) p l m a b f bs took wrote more empty = tt
 chunk_played (Ok true) p l m a b f bs took wrote more empty = (bs, took, wrote)

@@ -56,22 +56,22 @@ fn put_all<W: Write>(writer: &mut W, bytes: &[u8]) -> Result<(), Broken>
     Ok(())
 }
 
-// Writes the player's output, which leaves it.
+// Writes the player's output, which leaves it, where a write fails too.
 fn flush<W: Write>(writer: &mut W, player: &mut Player) -> Result<(), Broken>
-    ensures emptied { OnOk result (Emptied player.old player.new) }
+    ensures emptied { Emptied player.old player.new }
     ensures all { OnOk result (Appends (W.contents writer.old) (W.contents writer.new) (output player.old)) }
     ensures part { (w : List ℕ) × Appends (W.contents writer.old) (W.contents writer.new) w × Begins (output player.old) w }
 {
-    put_all(writer, player.output())?;
+    let done = put_all(writer, player.output());
     player.written();
-    Ok(())
+    done
 }
 
 // Plays all bytes of a chunk, unless a write fails: whether lines may follow.
 // Between reads the player's output is empty: a type for that state would be a second `Player`.
 fn drain<W: Write>(writer: &mut W, chunk: &[u8], player: &mut Player) -> Result<bool, Broken>
     requires { output player.old ≡ [] }
-    ensures empty { OnOk result (output player.new ≡ []) }
+    ensures empty { output player.new ≡ [] }
     ensures more { IfOk result (λ more. more ≡ goes_on player.new) }
     ensures written { OnOk result (Written (W.contents writer.old) (W.contents writer.new)
         (λ rest. total player.old (chunk.now ++ rest)) (total player.new)) }
@@ -90,7 +90,7 @@ fn drain<W: Write>(writer: &mut W, chunk: &[u8], player: &mut Player) -> Result<
 // The end of the input: the bytes after the last line end are a line too.
 fn close_text<W: Write>(writer: &mut W, player: &mut Player) -> Result<(), Broken>
     requires { output player.old ≡ [] }
-    ensures empty { OnOk result (output player.new ≡ []) }
+    ensures empty { output player.new ≡ [] }
     ensures written { OnOk result (Appends (W.contents writer.old) (W.contents writer.new) (total player.old [])) }
     ensures part { OnErr result (WrittenInPart (W.contents writer.old) (W.contents writer.new) (λ rest. total player.old [])) }
 {
@@ -124,7 +124,7 @@ fn read_some<R: Read, W: Write>(
 ) -> Result<bool, Broken>
     requires empty { output player.old ≡ [] }
     requires room { 0 < length input.old }
-    ensures empty { OnOk result (output player.new ≡ []) }
+    ensures empty { output player.new ≡ [] }
     ensures played { IfOk result (λ more. MatchBool more
         (Continues (R.remaining reader.old) (R.remaining reader.new) (W.contents writer.old) (W.contents writer.new)
         (total player.old) (total player.new))

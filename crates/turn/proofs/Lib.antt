@@ -3,3 +3,4 @@ pub mod Laws
 pub mod OwnRows
 pub mod Seeing
 pub mod Sizes
+pub mod Asking

@@ -1,16 +1,20 @@
 -- What the collector sees of the desk: no more rows than there are, and enough for the turn.
-use Rattle.std.specs.Prelude.{◌≡◌, ℕ, ◌≤◌, Bool, true, false, eqb, leb, List, Result}
-use mathlib.Core.Path.{refl}
+use Rattle.std.specs.Prelude.{◌≡◌, ℕ, ◌≤◌, Bool, true, false, eqb, leb, List, length, take, Result, Ok, Err}
+use Rattle.std.specs.List.{list_all}
+use mathlib.Core.Path.{refl, sym}
 use Rattle.std.proofs.Common.{arith}
 use mathlib.Core.Bool.{true≢false}
 use lib.Seq.{take-length}
 use borrow.Author.Tests.{leb-false, lt-ltb}
-use Rattle.machine.specs.Choice.{pick, every}
+use Rattle.machine.specs.Choice.{pick, every, refuse}
 use Rattle.machine.specs.Stage.{posted}
-use Rattle.machine.specs.Collector.{survey, marking, by_stage, collector_turn}
+use Rattle.machine.specs.Range.{status_ok}
+use Rattle.machine.specs.Collector.{has_status, survey, marking, by_stage, collector_turn}
 use Rattle.machine.specs.declared.Record.{Record}
 use Rattle.machine.specs.declared.Row.{Row}
 use Rattle.machine.specs.declared.Refusal.{Refusal}
+use Rattle.machine.specs.declared.Refusal.TheVariants.{BadNumber}
+use Rattle.cells.proofs.Testing.{same_all}
 use Rattle.turn.specs.Lent.{waits, rows_read, seen}
 
 pick-le : (t : Bool) (n : ℕ) → pick t n 0 ≤ n
@@ -20,6 +24,17 @@ pick-le false n = omega arith
 pub rows_read_le : (rec : Record) (rows : ℕ) → rows_read rec rows ≤ rows
 unfolding rows_read
 rows_read_le rec rows = pick-le (waits rec) rows
+
+-- ---- the first n rows were asked
+module _ (rec : Record) (desk : List Row) (n : ℕ) (reads : n ≡ rows_read rec (length desk)) where
+  pub seen_bad : (fit : Bool) → fit ≡ list_all status_ok (take n desk) → fit ≡ false → Err BadNumber ≡ seen rec desk
+  unfolding seen survey refuse
+  seen_bad fit e f = rw (sym reads, same_all status_ok (take n desk), sym e, f) refl
+
+  pub seen_all : (fit same : Bool) (number : ℕ) → fit ≡ list_all status_ok (take n desk) → fit ≡ true → number ≡ posted rec.stage → same ≡ list_all (has_status number) (take n desk) → Ok same ≡ seen rec desk
+  unfolding seen survey refuse
+  seen_all fit same number e f p d =
+      rw (sym reads, same_all status_ok (take n desk), sym e, f, same_all (has_status (posted rec.stage)) (take n desk), sym p, sym d) refl
 
 -- ---- a turn that is no waiting test does not ask what was seen
 unwaited : (rec : Record) (s s' : Result Bool Refusal) (fs cs : List ℕ) → waits rec ≡ false → by_stage rec s fs cs rec.stage ≡ by_stage rec s' fs cs rec.stage

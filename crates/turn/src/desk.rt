@@ -2,9 +2,6 @@
 #![tactic(auto, using(std::proofs::lemmas::Bool::Decides::nat_tests, cells::proofs::Testing::same_all, crate::proofs::Seeing::rows_read_le), unfolding(machine::specs::Choice::every, machine::specs::Collector::has_status, crate::specs::Lent::waits, crate::specs::Lent::rows_read, crate::specs::Lent::seen, machine::specs::Collector::survey, machine::specs::Choice::refuse, machine::specs::Range::status_ok))]
 
 ghost use Rattle.std.specs.Prelude.{◌≡◌, slice_index_or, slice_set};
-ghost use Rattle.std.specs.List.{list_all};
-ghost use Rattle.machine.specs.Collector.{has_status};
-ghost use Rattle.machine.specs.Range.{status_ok};
 ghost use Rattle.machine.specs.Store.{fresh_row};
 ghost use Rattle.turn.specs.Lent.{waits, rows_read, seen};
 
@@ -53,26 +50,21 @@ pub fn rows_read(rec: Record, rows: usize) -> usize
     if waits(rec) { rows } else { 0 }
 }
 
-// Whether all statuses are in range; whether all are this number.
-fn all_fit(rows: &[Row]) -> bool
-    ensures { result ≡ list_all status_ok rows.now }
-{
-    rows.iter().all(|row| status_ok(*row))
-}
-
-fn all_same(rows: &[Row], number: u8) -> bool
-    ensures { result ≡ list_all (has_status number) rows.now }
-{
-    rows.iter().all(|row| row.status == number)
-}
-
 // What a waiting test finds in the statuses of the rows that this turn reads.
 pub fn survey_desk(desk: &[Row], rec: Record) -> Result<bool, Refusal>
     ensures { result ≡ seen rec desk.now }
 {
-    let rows = &desk[..rows_read(rec, desk.len())];
-    if !all_fit(rows) {
-        return Err(Refusal::BadNumber);
+    let number = posted(rec.stage);
+    // No early exit, and one pass: a way out of each row costs more than its two tests.
+    let mut fit = true;
+    let mut same = true;
+    for row in &desk[..rows_read(rec, desk.len())] {
+        fit &= status_ok(*row);
+        same &= row.status == number;
     }
-    Ok(all_same(rows, posted(rec.stage)))
+    if fit {
+        Ok(same)
+    } else {
+        Err(Refusal::BadNumber)
+    }
 }

@@ -3,8 +3,6 @@ use Rattle.std.specs.Prelude.{◌≡◌, ℕ, zero, suc, ◌+◌, ◌<◌, ◌�
 use Rattle.std.specs.List.{list_all}
 use Rattle.std.specs.Simd.{first_chunks}
 use Rattle.std.proofs.Common.{refl, sym, ap, ◌∙◌, arith}
-use Rattle.std.proofs.lemmas.List.{take_all}
-use native.Mathlib.Numerals.{add-one}
 use Rattle.machine.specs.Choice.{pick, all, refuse}
 use Rattle.machine.specs.Stage.{posted}
 use Rattle.machine.specs.Range.{status_ok}
@@ -37,26 +35,6 @@ status_in ws = nat_le (byte_of (get_or ws 0 0)) 2
 
 abbrev pub status_is : ℕ → List ℕ → Bool
 status_is number ws = byte_of (get_or ws 0 0) == number
-
--- one row more is asked; d is what an index past the end would read
-more : (t : List ℕ → Bool) (rows : List (List ℕ)) (d : List ℕ) (i : ℕ) → i < length rows → (list_all t (take i rows) && t (get_or rows i d)) ≡ list_all t (take (suc i) rows)
-more t [] d i h = absurd (omega arith)
-more t (x ∷ rows) d zero h = go (t x)
-  where
-    go : (b : Bool) → b ≡ (b && true)
-    go true = refl
-    go false = refl
-more t (x ∷ rows) d (suc i) h = go (t x) (more t rows d i (omega arith))
-  where
-    go : (b : Bool) → (list_all t (take i rows) && t (get_or rows i d)) ≡ list_all t (take (suc i) rows) → ((b && list_all t (take i rows)) && t (get_or rows i d)) ≡ (b && list_all t (take (suc i) rows))
-    go true e = e
-    go false e = refl
-
-pub asked_more : (t : List ℕ → Bool) (rows : List (List ℕ)) (d : List ℕ) (i : ℕ) (b : Bool) → i < length rows → b ≡ list_all t (take i rows) → (b && t (get_or rows i d)) ≡ list_all t (take (i + 1) rows)
-asked_more t rows d i b h e = rw (e, add-one i) (more t rows d i h)
-
-pub asked_all : (t : List ℕ → Bool) (rows : List (List ℕ)) (i : ℕ) (b : Bool) → length rows ≤ i → b ≡ list_all t (take i rows) → b ≡ list_all t rows
-asked_all t rows i b h e = e ∙ rw (take_all i rows h)
 
 -- of these rows the first n are read
 module _ (rec : Record) (words : List ℕ) (rows : List (List ℕ)) (n : ℕ) (front : rows ≡ chunks words) (reads : n ≡ rows_read rec (length rows)) (long : length rows ≡ length words / 16) where

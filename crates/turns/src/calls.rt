@@ -2,9 +2,9 @@
 // written back. They stand beside the calls of `turn`, whose desk is rows: C's desk is words, and a turn makes rows of those alone that it reads.
 #![tactic(auto, using(std::proofs::lemmas::Bool::Decides::nat_tests, crate::proofs::Ending::shapes), unfolding(machine::specs::Choice::every, crate::specs::Calls::shaped))]
 
-ghost use Rattle.std.specs.Prelude.{◌≡◌, ◌/◌, ◌%◌, ◌≤◌, length, take, replicate};
+ghost use Rattle.std.specs.Prelude.{◌≡◌, ◌%◌, length, take, replicate};
 ghost use Rattle.machine.specs.Store.{fresh_row};
-ghost use Rattle.turn.specs.Lent.{seen};
+ghost use Rattle.turn.specs.Lent.{seen, own_rows};
 ghost use Rattle.turns.specs.Plain.{desk_of, row_words, answer_number};
 ghost use Rattle.turns.specs.Calls.{shaped, lent, result_of, start_by, write_by, collect_by, counted, census_by};
 
@@ -120,10 +120,10 @@ pub fn collect_words(
     Ok(turn.answer)
 }
 
-// The rows of a desk of at most eight, and fresh rows after them; of more, the first eight.
+// The rows of the desk, or the first eight where it has more, and fresh rows after them.
 #[tactic(auto, using(crate::proofs::Gathering::gathered))]
 fn gather(desk: &[u16]) -> [Row; 8]
-    ensures { length desk.now / 16 ≤ 8 → take (length desk.now / 16) result ≡ desk_of desk.now }
+    ensures { take (own_rows (length (desk_of desk.now))) result ≡ take (own_rows (length (desk_of desk.now))) (desk_of desk.now) }
 {
     std::array::from_fn(|i| row_at(desk, i))
 }

@@ -1,7 +1,8 @@
 use Rattle.std.proofs.Common.{length, arith, sym, refl}
 use Rattle.std.proofs.lemmas.List.{length-take-le}
 use Rattle.turn.proofs.Seeing.{rows_read_le}
-use Rattle.turns.proofs.Surveying.{status_in, status_is, asked_more, asked_all, saw-bad, saw-all}
+use Rattle.turn.proofs.Asking.{asked_more, asked_all}
+use Rattle.turns.proofs.Surveying.{status_in, status_is, saw-bad, saw-all}
 use Rattle.turns.proofs.calls.survey_words.Goals as goal
 
 pub slice_bounds-words-items-end : goal.slice_bounds-words-items-end
