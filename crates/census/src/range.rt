@@ -15,7 +15,7 @@ fn rows_ok(n: u16, desk: &[Row]) -> bool
     desk.iter().all(|row| row_ok(n, *row))
 }
 
-// A stretch of the fields: many values are tested at once, as a row's slots are. With an exit at each a census took twice as long.
+// A stretch of the fields: many values are tested at once, as a row's slots are. By `all`, with an exit at each, a census took twice as long.
 fn stretch_ok(n: u16, values: &[u16]) -> bool
     ensures { result ≡ list_all (value_ok n) values.now }
 {

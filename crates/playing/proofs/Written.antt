@@ -40,7 +40,7 @@ nothing_left (Some xs) old f e = subst (Appends old old) (sym (e xs)) (Appends-n
 
 -- a chunk was read and played: the player goes on below its last output line
 pub chunk_played : {E : Type 0} (r : Result Bool E) (p : Player) (l m a b : Option (List ℕ)) (f : List ℕ → List ℕ) (bs : List ℕ)
-    → Consumes l m bs → OnOk r (Written a b (λ rest. f (bs ++ rest)) (total p)) → IfOk r (λ more. more ≡ goes_on p) → output p ≡ []
+    → Consumes l m bs → OnOk r (Written a b (λ rest. f (bs ++ rest)) (total p)) → IfOk r (λ more. more ≡ goes_on p) → OnOk r (output p ≡ [])
     → IfOk r (λ more. MatchBool more (Continues l m a b f (total p)) (Finishes l a b f))
 chunk_played (Err e) p l m a b f bs took wrote more empty = tt
 chunk_played (Ok true) p l m a b f bs took wrote more empty = (bs, took, wrote)
@@ -50,7 +50,11 @@ chunk_played (Ok false) p l m a b f bs took wrote more empty =
 pub continued : (more : Bool) (P Q : Type 0) → more ≡ true → MatchBool more P Q → P
 continued more P Q e h = subst (λ b. MatchBool b P Q) e h
 
--- ---- where a read or a write failed
+-- ---- where a read or a write failed, or none did
+
+pub on_ok : {T E : Type 0} {P : Type 0} (r : Result T E) → P → OnOk r P
+on_ok (Ok x) h = h
+on_ok (Err e) h = tt
 
 pub on_err : {T E : Type 0} {P : Type 0} (r : Result T E) → P → OnErr r P
 on_err (Ok x) h = tt

@@ -1,5 +1,5 @@
 // The desk behind its reference: a row taken out, a row put back, and the statuses seen.
-#![tactic(auto, using(std::proofs::lemmas::Bool::Decides::nat_tests, cells::proofs::Testing::same_all, crate::proofs::Seeing::rows_read_le), unfolding(machine::specs::Choice::every, machine::specs::Collector::has_status, crate::specs::Lent::waits, crate::specs::Lent::rows_read, crate::specs::Lent::seen, machine::specs::Collector::survey, machine::specs::Choice::refuse, machine::specs::Range::status_ok))]
+#![tactic(auto, using(std::proofs::lemmas::Bool::Decides::nat_tests, crate::proofs::Seeing::rows_read_le), unfolding(machine::specs::Choice::every, machine::specs::Collector::has_status, crate::specs::Lent::waits, crate::specs::Lent::rows_read, machine::specs::Range::status_ok))]
 
 ghost use Rattle.std.specs.Prelude.{◌≡◌, slice_index_or, slice_set};
 ghost use Rattle.machine.specs.Store.{fresh_row};

@@ -1,7 +1,7 @@
 use Rattle.std.proofs.Common.{rules, ◌≡◌, ap, subst, take, Ok}
 use Rattle.std.specs.Io.KnownBytes.{ReadConsumes}
 use Rattle.player.specs.Play.{total}
-use Rattle.playing.proofs.Written.{chunk_failed, chunk_played, end_in_part, on_err}
+use Rattle.playing.proofs.Written.{chunk_failed, chunk_played, end_in_part, on_err, on_ok}
 use Rattle.playing.proofs.read_some.Goals as goal
 
 -- The chunk is what was read; nothing more is to be written once the last output line was.
@@ -12,7 +12,7 @@ returns-clause-played g c =
     let input = c.take_some.new.input in
     let was : c.take_some.result ≡ Ok got = search rules in
     let took = subst (λ r. ReadConsumes (g.R.Read.remaining c.args.reader.now) (g.R.Read.remaining c.take_some.new.reader) r input) was c.take_some.ensures.bytes in
-    chunk_played c.drain.result player _ _ _ _ (total c.args.player.now) (take got input) took.0 c.drain.ensures.written c.drain.ensures.more c.drain.ensures.empty
+    chunk_played c.drain.result player _ _ _ _ (total c.args.player.now) (take got input) took.0 c.drain.ensures.written c.drain.ensures.more (on_ok c.drain.result c.drain.ensures.empty)
 
 -- A part of what the chunk gave was written.
 pub returns-clause-part : goal.returns-clause-part
